@@ -1,0 +1,4 @@
+pub mod Machine
+pub mod Agreement
+pub mod Calls
+pub mod Demand3
