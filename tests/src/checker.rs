@@ -203,11 +203,12 @@ impl Checker {
         let mut last = GOING;
         let mut fed = false;
         for at in 1..=ran.steps {
-            claim(matches!(last, GOING | STILL_HELD), name, || {
-                format!("went on after {last}")
-            })?;
             self.note_start(self.before.state.phase, self.before.state.top);
             last = self.before.step_with(self.fault);
+            let goes_on = matches!(last, GOING | STILL_HELD);
+            claim(goes_on || at == ran.steps, name, || {
+                format!("went on after {last}")
+            })?;
             claim(last != DAMAGED, name, || "a step answers 9".into())?;
             let mut made = false;
             if at == ran.steps {
@@ -362,6 +363,7 @@ impl Checker {
 
     /// The claims about the state after a call.
     fn check_state(&self) -> Result<(), String> {
+        self.check_present()?;
         self.check_registers()?;
         self.check_tuples()?;
         let state = &self.unit.state;
@@ -393,6 +395,21 @@ impl Checker {
             Item::Pointer(0, offset) => Word::pointer(0, u32::from(offset)),
             Item::Pointer(t, offset) => Word::pointer(self.handles[t - 1], u32::from(offset)),
         }
+    }
+
+    /// A reachable tuple whose handle is free would share it with a later
+    /// tuple; this catches it before.
+    fn check_present(&self) -> Result<(), String> {
+        let mut present = vec![false; self.handles.len() + 1];
+        for &t in &self.present {
+            present[t] = true;
+        }
+        for t in self.history.reachable() {
+            claim(present[t], "reachable tuples stay", || {
+                format!("tuple {t} is gone")
+            })?;
+        }
+        Ok(())
     }
 
     fn check_registers(&self) -> Result<(), String> {

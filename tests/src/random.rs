@@ -58,6 +58,8 @@ pub struct Style {
     /// How often a GETM with no room gives way to dropping a pointer, so that
     /// sweeps with something to move also happen with nothing held.
     pub careful: u32,
+    /// How often a request while marking tries to hide a pointer.
+    pub hides: u32,
 }
 
 impl Style {
@@ -78,6 +80,7 @@ impl Style {
             words: rng.pick(&[2, 4, even, even, even + 3, m / 4]).max(1),
             registers: rng.pick(&[2, 3, 4, 8, 8]),
             careful: rng.pick(&[0, 60, 90, 98, 98]),
+            hides: rng.pick(&[0, 20, 50, 80]),
         }
     }
 }
@@ -165,12 +168,63 @@ fn slot(rng: &mut Rng, unit: &Unit, style: &Style) -> (u16, u16) {
         _ => 0,
     };
     let inside = size.saturating_sub(word.offset());
+    // Often a slot with a pointer in it, so that pointers travel.
+    if inside > 0 && rng.percent(60) {
+        let address = unit.addresses[word.handle() as usize];
+        let first = address as usize + word.offset() as usize + 1;
+        let start = rng.below(inside);
+        let found = (0..inside.min(16))
+            .map(|turn| (start + turn) % inside)
+            .find(|&k| unit.pointers.get(first + k as usize) == Some(&true));
+        if let Some(k) = found {
+            return (s, k as u16);
+        }
+    }
     let k = match rng.below(40) {
         0 => inside,
         1 => rng.pick(&[inside + 1, 65_535, 65_535 - inside]),
         _ => rng.below(inside.max(1)),
     };
     (s, k as u16)
+}
+
+/// While marking goes on: takes pointers out of tuples not scanned yet and
+/// out of registers not looked at yet, and leaves them in other places.
+fn hide(rng: &mut Rng, unit: &Unit, style: &Style) -> Option<Request> {
+    if !(1..=3).contains(&unit.state.phase) {
+        return None;
+    }
+    let tuple_of = |r: u16| unit.state.registers[usize::from(r)].handle();
+    let s = tuple_register(rng, unit, style) % 8;
+    if rng.percent(50) {
+        // A register whose tuple is unmarked: store it, or drop it.
+        let r = search(rng, unit, |word| {
+            let mark = unit.marks.get(word.handle() as usize);
+            word.pointer && word.handle() != 0 && mark == Some(&false)
+        })?;
+        return Some(if rng.percent(50) {
+            Request::Store { r, s, k: 0 }
+        } else {
+            Request::Setd { r, v: 0 }
+        });
+    }
+    // A slot with a pointer: load it, or write over it once loaded.
+    let word = unit.state.registers[usize::from(s)];
+    let size = *unit.sizes.get(word.handle() as usize)?;
+    let address = *unit.addresses.get(word.handle() as usize)?;
+    let k = (word.offset()..size.min(16)).find(|&place| {
+        let at = address as usize + place as usize + 1;
+        unit.pointers.get(at) == Some(&true)
+    })?;
+    let held = unit.words.get(address as usize + k as usize + 1)? >> 16;
+    let k = (k - word.offset()) as u16;
+    let loaded = (0..8).any(|r| r != s && tuple_of(r) == held);
+    let idle = search(rng, unit, |word| !word.pointer)?;
+    Some(if loaded {
+        Request::Store { r: idle, s, k }
+    } else {
+        Request::Load { r: idle, s, k }
+    })
 }
 
 fn asked_words(rng: &mut Rng, unit: &Unit, style: &Style) -> u16 {
@@ -189,6 +243,11 @@ fn asked_words(rng: &mut Rng, unit: &Unit, style: &Style) -> u16 {
 
 /// A request that suits the box as it is, or is refused now and then.
 pub fn request(rng: &mut Rng, unit: &Unit, style: &Style) -> Request {
+    if rng.percent(style.hides) {
+        if let Some(request) = hide(rng, unit, style) {
+            return request;
+        }
+    }
     let r = any_register(rng, style);
     let kind = rng.below(100);
     if kind < style.getms {
