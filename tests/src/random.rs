@@ -29,7 +29,7 @@ impl Rng {
 
     /// A number below the limit, which must not be 0.
     pub fn below(&mut self, limit: u32) -> u32 {
-        ((self.bits() >> 32) * u64::from(limit) >> 32) as u32
+        (((self.bits() >> 32) * u64::from(limit)) >> 32) as u32
     }
 
     /// True that many times in a hundred.
@@ -250,7 +250,14 @@ pub fn request(rng: &mut Rng, unit: &Unit, style: &Style) -> Request {
     }
     let r = any_register(rng, style);
     let kind = rng.below(100);
-    if kind < style.getms {
+    // With few pointers left most requests would only be refused.
+    let pointers = unit.state.registers.iter().filter(|word| word.pointer);
+    let getms = match pointers.count() {
+        0 => 80,
+        1 | 2 => style.getms + 20,
+        _ => style.getms,
+    };
+    if kind < getms {
         let n = asked_words(rng, unit, style);
         let State { m, top, free, .. } = unit.state;
         let room = free != 0 && top.saturating_add(u32::from(n)) < m;
@@ -261,7 +268,7 @@ pub fn request(rng: &mut Rng, unit: &Unit, style: &Style) -> Request {
         let tag = rng.pick(&[0, 1, 7, 65_535, 4660]);
         return Request::Getm { r, n, tag };
     }
-    if kind < style.getms + style.drops {
+    if kind < getms + style.drops {
         let v = rng.pick(&[0, 1, 0x0001_0000, 0x0002_0001, u32::MAX, 0xABCD]);
         return if rng.percent(75) {
             Request::Setd { r, v }
@@ -434,7 +441,7 @@ fn flag(rng: &mut Rng) -> bool {
 
 fn hold(rng: &mut Rng, m: u32) -> Hold {
     Hold {
-        held: flag(rng),
+        held: rng.percent(35),
         begun: flag(rng),
         register: rng.pick(&[0, 1, 3, 7, 8, 9, 65_535]),
         size: match rng.below(6) {
@@ -565,6 +572,15 @@ fn change_length(rng: &mut Rng, unit: &mut Unit) {
         5 => change(rng, &mut unit.marks, false),
         _ => change(rng, &mut unit.deeps, false),
     }
+}
+
+/// A grown box with one or two fields damaged.
+pub fn damaged(rng: &mut Rng, grower: &mut Grower) -> Unit {
+    let mut unit = grower.grow(rng).clone();
+    for _ in 0..1 + rng.below(2) {
+        damage(rng, &mut unit);
+    }
+    unit
 }
 
 /// Damages one field of a box.

@@ -75,14 +75,16 @@ const STAY: &str = "reachable tuples stay";
 /// What may be seen first when a reachable tuple is freed: the tuple itself,
 /// its contents, a bad handle met later, or a hold granted that shouldn't be.
 const LOST: [&str; 5] = [STAY, AGREEMENT, NINE, ZERO, FIT];
-/// The same, or dead tuples kept by a mark that was left.
+/// Stale words are above top, or in a tuple granted there by the same step.
+const STALE: [&str; 2] = [ZERO, AGREEMENT];
+/// As LOST, or dead tuples kept by a mark that was left.
 const MARKED: [&str; 6] = [STAY, AGREEMENT, NINE, ZERO, FIT, DEAD];
 
 faults! {
     last_stays_marked: LastStaysMarked, MARKED;
     marked_in_rest: MarkedInRest, MARKED;
     roots_only_at_start: RootsOnlyAtStart, LOST;
-    counted_per_register: CountedPerRegister, [ZERO, NINE];
+    counted_per_register: CountedPerRegister, [ZERO, AGREEMENT, NINE];
     empty_heap_swept: EmptyHeapSwept, [NINE];
     load_skips_copy: LoadSkipsCopy, [AGREEMENT];
     load_skips_moved: LoadSkipsMoved, [AGREEMENT];
@@ -96,8 +98,8 @@ faults! {
     deep_not_listed: DeepNotListed, LOST;
     rest_lost: RestLost, LOST;
     last_word_not_scanned: LastWordNotScanned, LOST;
-    zero_late: ZeroLate, [ZERO];
-    never_cleared: NeverCleared, [ZERO];
+    zero_late: ZeroLate, STALE;
+    never_cleared: NeverCleared, STALE;
     new_not_marked: NewNotMarked, LOST;
     hold_fails_early: HoldFailsEarly, [FIT];
     hold_never_fails: HoldNeverFails, ["a hold is answered in time"];

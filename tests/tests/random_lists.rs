@@ -94,8 +94,18 @@ fn large_boxes() {
     totals.all_came();
 }
 
+/// What came of calls on any states.
+struct Seen {
+    answers: [u64; 34],
+    /// Single steps in each phase that answered 9, and that didn't.
+    phases: [[u64; 2]; 9],
+    /// LOAD, STORE, SIZE, TAG and GETM that answered 9, and that were done.
+    kinds: [[u64; 2]; 5],
+}
+
 /// A call on any state: never a panic, and refusals leave all as found.
-fn try_state(rng: &mut Rng, unit: &Unit, answers: &mut [u64; 34]) {
+fn try_state(rng: &mut Rng, unit: &Unit, seen: &mut Seen) {
+    let answers = &mut seen.answers;
     let mut after = unit.clone();
     let answer = match rng.below(20) {
         0 => {
@@ -126,8 +136,30 @@ fn try_state(rng: &mut Rng, unit: &Unit, answers: &mut [u64; 34]) {
             answers[ran.answer as usize] += 1;
             return;
         }
-        3..=12 => after.step(),
-        _ => after.request(random::any_request(rng, unit)),
+        3..=12 => {
+            let answer = after.step();
+            if unit.sound() {
+                let going = usize::from(answer != DAMAGED);
+                seen.phases[unit.state.phase as usize][going] += 1;
+            }
+            answer
+        }
+        _ => {
+            let request = random::any_request(rng, unit);
+            let answer = after.request(request);
+            let kind = match request {
+                Request::Load { .. } => 0,
+                Request::Store { .. } => 1,
+                Request::Size { .. } => 2,
+                Request::Tag { .. } => 3,
+                Request::Getm { .. } => 4,
+                _ => 5,
+            };
+            if kind < 5 && unit.sound() && matches!(answer, DONE | DAMAGED) {
+                seen.kinds[kind][usize::from(answer == DONE)] += 1;
+            }
+            answer
+        }
     };
     answers[answer as usize] += 1;
     match answer {
@@ -149,12 +181,12 @@ fn arbitrary_states() {
     let seed = 4;
     println!("arbitrary states: seed {seed}");
     let mut rng = Rng::new(seed);
-    let mut answers = [0; 34];
+    let mut seen = Seen::new();
     for _ in 0..600_000 {
         let unit = random::arbitrary(&mut rng);
-        try_state(&mut rng, &unit, &mut answers);
+        try_state(&mut rng, &unit, &mut seen);
     }
-    print_answers("arbitrary states", &answers);
+    seen.print("arbitrary states");
 }
 
 #[test]
@@ -162,26 +194,45 @@ fn damaged_states() {
     let seed = 5;
     println!("damaged states: seed {seed}");
     let mut rng = Rng::new(seed);
-    let mut answers = [0; 34];
+    let mut seen = Seen::new();
     let mut grower = Grower::new(&mut rng);
     for _ in 0..600_000 {
-        let mut unit = grower.grow(&mut rng).clone();
-        for _ in 0..1 + rng.below(2) {
-            random::damage(&mut rng, &mut unit);
-        }
-        try_state(&mut rng, &unit, &mut answers);
+        let unit = random::damaged(&mut rng, &mut grower);
+        try_state(&mut rng, &unit, &mut seen);
     }
-    print_answers("damaged states", &answers);
+    seen.print("damaged states");
 }
 
-fn print_answers(name: &str, answers: &[u64; 34]) {
-    for (answer, count) in answers.iter().enumerate() {
-        if *count > 0 {
-            println!("{name}: answer {answer}: {count}");
+impl Seen {
+    fn new() -> Seen {
+        Seen {
+            answers: [0; 34],
+            phases: [[0; 2]; 9],
+            kinds: [[0; 2]; 5],
         }
     }
-    // Every answer there is must be reached, or the states are too tame.
-    for answer in (0..=11).chain(30..=33) {
-        assert!(answers[answer] > 0, "{name}: answer {answer} never came");
+
+    /// Prints the counts. Every answer there is must have come, and 9 both
+    /// given and not given by each rule, or the states are too tame.
+    fn print(&self, name: &str) {
+        for (answer, count) in self.answers.iter().enumerate() {
+            if *count > 0 {
+                println!("{name}: answer {answer}: {count}");
+            }
+        }
+        for answer in (0..=11).chain(30..=33) {
+            assert!(self.answers[answer] > 0, "{name}: no answer {answer}");
+        }
+        for (phase, [nine, not]) in self.phases.iter().enumerate() {
+            println!("{name}: phase {phase}: 9 {nine} times, otherwise {not}");
+            // The Rest step looks at nothing and never answers 9.
+            assert_eq!(*nine > 0, phase > 0);
+            assert!(*not > 0);
+        }
+        let kinds = ["LOAD", "STORE", "SIZE", "TAG", "GETM"];
+        for (kind, [nine, done]) in kinds.iter().zip(self.kinds) {
+            println!("{name}: {kind}: 9 {nine} times, done {done}");
+            assert!(nine > 0 && done > 0);
+        }
     }
 }
