@@ -104,14 +104,21 @@ impl Checker {
         let meets = self.meets(&request);
         let answer = self.unit.request_with(self.fault, request);
         self.count(answer)?;
+        let room = match request {
+            Request::Getm { n, .. } => {
+                let State { m, top, free, .. } = self.before.state;
+                free != 0 && u64::from(top) + u64::from(n) < u64::from(m)
+            }
+            _ => true,
+        };
         let wanted = match (refusal, answer) {
             (Some(refusal), _) => answer == refusal,
-            (None, DONE) => true,
-            (None, HELD) => matches!(request, Request::Getm { .. }),
+            (None, DONE) => room,
+            (None, HELD) => !room,
             _ => false,
         };
         claim(wanted, "refusals", || {
-            format!("answered {answer}, history says {refusal:?}")
+            format!("answered {answer}, history says {refusal:?}, room {room}")
         })?;
         match answer {
             DONE => {

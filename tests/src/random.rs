@@ -519,6 +519,11 @@ fn any_state(rng: &mut Rng, m: u32, h: u32) -> State {
         0 => number(rng, m, h),
         _ => rng.below(5),
     };
+    // Often a register points to the tuple at hand, good handle or not.
+    let tuple = handle(rng, m, h);
+    if rng.percent(40) {
+        registers[rng.below(8) as usize] = Word::pointer(tuple, rng.below(3));
+    }
     State {
         m,
         h,
@@ -541,7 +546,7 @@ fn any_state(rng: &mut Rng, m: u32, h: u32) -> State {
             0 => src,
             _ => number(rng, m, h),
         },
-        tuple: handle(rng, m, h),
+        tuple,
         size,
         index: match rng.below(4) {
             0 => number(rng, m, h),
@@ -651,7 +656,12 @@ pub fn any_request(rng: &mut Rng, unit: &Unit) -> Request {
         }
     }
     let m = unit.state.m;
-    let (r, s, t) = (register(rng), register(rng), register(rng));
+    let (r, mut s, t) = (register(rng), register(rng), register(rng));
+    if let Some(moving) = moving_register(unit) {
+        if rng.percent(50) {
+            s = moving;
+        }
+    }
     let (n, k) = (small(rng, m), small(rng, m));
     match rng.below(20) {
         0 => Request::Setd {

@@ -10,7 +10,7 @@ const LISTS: u32 = 1000;
 const CALLS: u32 = 2000;
 
 /// Random lists on small boxes until a claim fails: which one, and after how
-/// many calls in all.
+/// many calls in all. The list that shows a fault must pass without it.
 fn caught(fault: Fault) -> Option<(String, u64)> {
     let mut rng = Rng::new(SEED);
     let mut calls = 0;
@@ -18,6 +18,7 @@ fn caught(fault: Fault) -> Option<(String, u64)> {
         let (m, h) = random::small_box(&mut rng);
         let mut style = Style::any(&mut rng, m, h);
         let mut checker = Checker::open(m, h, fault).unwrap();
+        let mut list = Vec::new();
         for at in 0..CALLS {
             if at % 250 == 249 {
                 style = Style::any(&mut rng, m, h);
@@ -27,7 +28,14 @@ fn caught(fault: Fault) -> Option<(String, u64)> {
                 // A fault may keep the collector from ever stopping.
                 call = Call::Run(budget.min(20 * m));
             }
+            list.push(call);
             if let Err(what) = checker.call(call) {
+                if fault != Fault::None {
+                    let mut good = Checker::open(m, h, Fault::None).unwrap();
+                    for call in list {
+                        good.call(call).unwrap();
+                    }
+                }
                 return Some((what, calls + checker.calls));
             }
         }

@@ -79,6 +79,7 @@ fn small_boxes() {
     totals.all_came();
 }
 
+/// Fewer calls, but with the full check after each of them too.
 #[test]
 fn large_boxes() {
     let seed = 77;
