@@ -490,6 +490,7 @@ impl Rules<'_> {
     /// Where word `index` of a tuple is. The entry is looked up only if the
     /// word is at the entry's address.
     fn place(&self, handle: u32, index: u32) -> Result<Place, u32> {
+        self.entry(handle)?;
         let state = &self.unit.state;
         if handle == state.tuple {
             if matches!(state.phase, 6 | 7) && index == state.index {
