@@ -1,6 +1,7 @@
 pub mod Limits
 pub mod State
 pub mod Box
+pub mod Boxed
 pub mod Place
 pub mod Request
 pub mod Collector

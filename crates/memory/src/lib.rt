@@ -2,7 +2,9 @@
 // small step at a time. The lent parts are seven columns, in this order everywhere: words, flags (M each; flag true
 // means pointer), addresses, sizes, links, marks, deeps (H each). What each call does is said in specs/.
 mod request;
+mod shade;
 mod state;
 
 pub use request::Request;
 pub use state::State;
+
