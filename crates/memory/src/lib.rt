@@ -7,4 +7,3 @@ mod state;
 
 pub use request::Request;
 pub use state::State;
-
