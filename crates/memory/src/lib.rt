@@ -4,6 +4,7 @@
 mod request;
 mod sound;
 mod state;
+mod tuple;
 
 pub use request::Request;
 pub use state::State;
