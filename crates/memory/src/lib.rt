@@ -2,6 +2,7 @@
 // small step at a time. The lent parts are seven columns, in this order everywhere: words, flags (M each; flag true
 // means pointer), addresses, sizes, links, marks, deeps (H each). What each call does is said in specs/.
 mod request;
+mod shade;
 mod sound;
 mod state;
 mod tuple;
