@@ -3,7 +3,9 @@
 // means pointer), addresses, sizes, links, marks, deeps (H each). What each call does is said in specs/.
 mod request;
 mod shade;
+mod sound;
 mod state;
+mod tuple;
 
 pub use request::Request;
 pub use state::State;

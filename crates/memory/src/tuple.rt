@@ -1,0 +1,85 @@
+// A new tuple: the work of GETM, carried out at once or at the end of a cycle.
+use crate::state::State;
+ghost use mathlib.Core.Bool.{Bool, not, cond};
+ghost use mathlib.Core.List.{List};
+ghost use mathlib.Core.Path.{_≡_};
+ghost use Prim.Native.Nat.{ℕ, _+_, _*_, _<_, _≤_};
+ghost use lib.Dec.{eqb};
+ghost use lib.ListN.{length, set};
+ghost use Rattle.memory.specs.State.{with-registers, with-flags, with-top, with-free, with-live};
+ghost use Rattle.memory.specs.Boxed.{boxed};
+ghost use Rattle.memory.specs.Request.{new-tuple};
+
+// Two halves of 16 bits as one word: a handle above an offset, or above a tag.
+pub fn packed(upper: u32, lower: u32) -> u32
+    requires { ⌜ (upper < 65536) × (lower < 65536) ⌝ }
+    ensures { λ r. ⌜ r ≡ upper * 65536 + lower ⌝ }
+{
+    upper * 65536 + lower
+}
+
+impl State {
+    // The state with register r holding these bits and this flag.
+    pub fn put_register(mut self, r: u16, bits: u32, flag: bool) -> State
+        requires { ⌜ r < 8 ⌝ }
+        ensures { λ s. ⌜ s ≡ with-registers (set (self .registers) r bits) (with-flags (set (self .flags) r flag) self) ⌝ }
+    {
+        let i = r as usize;
+        self.registers[i] = bits;
+        self.flags[i] = flag;
+        self
+    }
+
+    // The state when a tuple of n words has been made: link heads the free list, top grows by n + 1, and outside Rest live
+    // does.
+    fn take_room(mut self, n: u16, link: u32) -> State
+        requires { ⌜ (self .top + n + 1 ≤ self .m) × ((self .phase ≡ 0 → ⊥) → self .live + n + 1 ≤ self .m) × (self .m < 65536) ⌝ }
+        ensures { λ s. ⌜ s ≡ with-free link (with-top (self .top + n + 1) (with-live (cond (not (eqb (self .phase) 0)) (self .live + n + 1) (self .live)) self)) ⌝ }
+    {
+        let words = n as u32;
+        let phase = self.phase;
+        let live = self.live;
+        self.free = link;
+        self.top = self.top + words + 1;
+        if phase == 0 {
+            return self;
+        }
+        self.live = live + words + 1;
+        self
+    }
+
+    // Makes a tuple of n words: the first free handle, at top, its control word written and nothing else; r points to it. In
+    // Rest it is unmarked, in any other phase it is marked and counted in live.
+    pub fn new_tuple(
+        self,
+        r: u16,
+        n: u16,
+        tag: u16,
+        words: &mut [u32],
+        flags: &mut [bool],
+        addresses: &mut [u32],
+        sizes: &mut [u32],
+        links: &[u32],
+        marks: &mut [bool],
+        deeps: &mut [bool],
+    ) -> State
+        requires { ⌜ (length (now words) ≡ self .m) × (length (now flags) ≡ self .m) × (length (now addresses) ≡ self .h) × (length (now sizes) ≡ self .h) × (length (now links) ≡ self .h) × (length (now marks) ≡ self .h) × (length (now deeps) ≡ self .h) × (self .m < 65536) × (self .h ≤ 4096) × (self .free < self .h) × (r < 8) × (self .top + n + 1 ≤ self .m) × ((self .phase ≡ 0 → ⊥) → self .live + n + 1 ≤ self .m) ⌝ }
+        ensures { λ s. ⌜ boxed (now (words .exit)) (now (flags .exit)) (now (addresses .exit)) (now (sizes .exit)) (now (links .entry)) (now (marks .exit)) (now (deeps .exit)) s ≡ new-tuple r n tag (boxed (now (words .entry)) (now (flags .entry)) (now (addresses .entry)) (now (sizes .entry)) (now (links .entry)) (now (marks .entry)) (now (deeps .entry)) self) ⌝ }
+    {
+        let handle = self.free;
+        let top = self.top;
+        let phase = self.phase;
+        let i = handle as usize;
+        let at = top as usize;
+        let link = links[i];
+        let control = packed(handle, tag as u32);
+        let pointer = packed(handle, 0);
+        words[at] = control;
+        flags[at] = false;
+        addresses[i] = top;
+        sizes[i] = n as u32;
+        marks[i] = phase != 0;
+        deeps[i] = false;
+        self.take_room(n, link).put_register(r, pointer, true)
+    }
+}
