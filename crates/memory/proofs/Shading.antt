@@ -2,13 +2,14 @@
 -- there. By computing the definitions under those facts. Assumes nothing.
 use Prim.Native.Nat.{ℕ, _+_, _-_, _<_, _≤_}
 use mathlib.Core.Bool.{Bool, true, false, _||_}
-use mathlib.Core.Path.{_≡_, sym, _∙_}
+use mathlib.Core.Path.{_≡_}
 use native.Mathlib.Omega.{arith}
 use lib.Dec.{leb, ltb}
 use borrow.Author.Tests.{le-leb, lt-leb, leb-true}
 use Rattle.memory.specs.Box.{Box, size-of, marked, deep, is-entry}
 use Rattle.memory.specs.Place.{can-shade, list-next, mark-live, shade}
-use Rattle.memory.proofs.Entries.{entry, entry-nil, entry-far, entry-small, both-first, both-second}
+use Rattle.memory.proofs.Entries.{entry, entry-nil, entry-far, entry-small}
+use Rattle.memory.proofs.Sizes.{and-left, and-right}
 use Rattle.memory.proofs.Compare.{below-difference}
 
 module _ (h : ℕ) (b : Box) where
@@ -38,14 +39,14 @@ module _ (h : ℕ) (b : Box) where
   -- what follows where it can be shaded
   pub shadable-entry : can-shade h b ≡ true → is-entry h b ≡ true
   unfolding can-shade
-  shadable-entry e = both-first (is-entry h b) _ e
+  shadable-entry e = and-left (is-entry h b) _ e
 
   pub shadable-small : can-shade h b ≡ true → h < b .state .h
   shadable-small e = entry-small h b (shadable-entry e)
 
   pub shadable-total : can-shade h b ≡ true → marked h b ≡ false → b .state .live + size-of h b + 1 ≤ b .state .m
   unfolding can-shade
-  shadable-total e t = leb-true (b .state .live + size-of h b + 1) (b .state .m) (simp t at (both-second (is-entry h b) (marked h b || leb (b .state .live + size-of h b + 1) (b .state .m)) e))
+  shadable-total e t = leb-true (b .state .live + size-of h b + 1) (b .state .m) (simp t at (and-right (is-entry h b) (marked h b || leb (b .state .live + size-of h b + 1) (b .state .m)) e))
 
   pub shade-marked : marked h b ≡ true → b ≡ shade h b
   unfolding shade
