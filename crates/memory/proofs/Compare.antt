@@ -19,3 +19,13 @@ below-difference m l n o =
     same-test (ltb n (m - l)) (leb (l + n + 1) m)
     (λ t. let h : n < m - l = ltb-true n (m - l) t in le-leb (l + n + 1) m (omega arith))
     (λ t. let h : m - l ≤ n = ltb-false n (m - l) t in lt-leb (l + n + 1) m (omega arith))
+
+-- base + n lies below m
+pub below-sum : (m base n : ℕ) → base ≤ m → ltb n (m - base) ≡ ltb (base + n) m
+below-sum m base n o =
+    same-test (ltb n (m - base)) (ltb (base + n) m)
+    (λ t. let h : n < m - base = ltb-true n (m - base) t in lt-ltb (base + n) m (omega arith))
+    (λ t. let h : m - base ≤ n = ltb-false n (m - base) t in le-ltb (base + n) m (omega arith))
+
+pub above-sum : (m base n : ℕ) → m < base → false ≡ ltb (base + n) m
+above-sum m base n o = sym (le-ltb (base + n) m (omega arith))

@@ -5,14 +5,14 @@ ghost use mathlib.Core.List.{List, []};
 ghost use mathlib.Core.Path.{_≡_};
 ghost use Prim.Native.Nat.{ℕ, _<_};
 ghost use lib.ListN.{length};
-ghost use Rattle.memory.specs.Box.{Box, with-state, is-entry};
+ghost use Rattle.memory.specs.Box.{is-entry};
 ghost use Rattle.memory.specs.Boxed.{boxed};
 ghost use Rattle.memory.specs.Place.{can-shade, shade};
 
 impl State {
     // Whether handle h can be looked up: it is 1 to H-1.
     pub fn is_entry(self, h: u32) -> bool
-        ensures { λ r. ⌜ ((b : Box) → r ≡ is-entry h (with-state self b)) ⌝ }
+        ensures { λ r. ⌜ ((ws : List ℕ) (fs : List Bool) (ads ss ls : List ℕ) (ms ds : List Bool) → r ≡ is-entry h (boxed ws fs ads ss ls ms ds self)) ⌝ }
     {
         if h == 0 {
             return false;
