@@ -2,7 +2,7 @@
 -- definitions under the facts of each case. Assumes nothing.
 use Prim.Native.Nat.{ℕ, _+_, _<_, _≤_}
 use mathlib.Core.Bool.{Bool, true, false, and-false}
-use mathlib.Core.Path.{_≡_, sym, _∙_}
+use mathlib.Core.Path.{_≡_, _∙_}
 use lib.Dec.{ltb, leb}
 use borrow.Author.Tests.{lt-ltb, le-ltb, le-leb, lt-leb, eq-eqb, ne-eqb, ltb-true}
 use Rattle.memory.specs.declared.place.Place as code-place
@@ -10,7 +10,7 @@ use Rattle.memory.specs.declared.place.Place.the-variants.{Copy, At}
 use Rattle.memory.specs.Box.{Box, Word, word-at, put, copy-register, address, with-state}
 use Rattle.memory.specs.State.{with-copy, with-copy-flag}
 use Rattle.memory.specs.Place.{Place, copy-place, at, being-moved, place, in-memory, read, write}
-use Rattle.memory.specs.Boxed.{place-of}
+use Rattle.memory.specs.Boxed.{place-of, Within}
 use native.Mathlib.Omega.{arith}
 
 -- ---- the tuple being moved
@@ -71,9 +71,6 @@ module _ (p : code-place.Place) (a : ℕ) (b : Box) where
   unfolding in-memory
   memory-at e = rw e
 
-  pub below-m : p ≡ At a → in-memory (place-of p) b ≡ true → a < b .state .m
-  below-m e t = ltb-true a (b .state .m) (memory-at e ∙ t)
-
   pub read-at : p ≡ At a → word-at a b ≡ read (place-of p) b
   unfolding read
   read-at e = rw e
@@ -81,3 +78,11 @@ module _ (p : code-place.Place) (a : ℕ) (b : Box) where
   pub write-at : (w : Word) → p ≡ At a → put a w b ≡ write (place-of p) w b
   unfolding write
   write-at w e = rw e
+
+pub within-m : (p : code-place.Place) (b : Box) → in-memory (place-of p) b ≡ true → Within p (b .state .m)
+unfolding in-memory
+within-m Copy b t = tt
+within-m (At a) b t = ltb-true a (b .state .m) t
+
+pub below-m : (p : code-place.Place) (a m : ℕ) → p ≡ At a → Within p m → a < m
+below-m p a m e w = rw e at w

@@ -1,5 +1,5 @@
 -- How the code's parts make a box and a reply, and what its words and places stand for.
-use Prim.Native.Nat.{ℕ}
+use Prim.Native.Nat.{ℕ, _<_}
 use mathlib.Core.Bool.{Bool}
 use mathlib.Core.List.{List}
 use Rattle.memory.specs.declared.state.State.{State}
@@ -19,3 +19,8 @@ word-of w = record { bits = w .bits; flag = w .flag }
 abbrev pub place-of : code-place.Place → Place
 place-of Copy = copy-place
 place-of (At a) = at a
+
+-- a place that may be touched: an address is below m
+abbrev pub Within : code-place.Place → ℕ → Type 0
+Within Copy m = Unit
+Within (At a) m = a < m

@@ -1,14 +1,14 @@
 // Where a word of a tuple is (document 01), and reading and writing it there.
 use crate::state::State;
 use crate::word::Word;
-ghost use mathlib.Core.Bool.{Bool, true};
+ghost use mathlib.Core.Bool.{Bool};
 ghost use mathlib.Core.List.{List};
 ghost use mathlib.Core.Path.{_≡_};
 ghost use Prim.Native.Nat.{ℕ, _+_, _<_};
 ghost use lib.Dec.{ltb};
 ghost use lib.ListN.{length};
 ghost use Rattle.memory.specs.Place.{being-moved, place, in-memory, read, write};
-ghost use Rattle.memory.specs.Boxed.{boxed, word-of, place-of};
+ghost use Rattle.memory.specs.Boxed.{boxed, word-of, place-of, Within};
 
 // The copy register, or an address, which may lie outside memory.
 pub enum Place {
@@ -78,7 +78,7 @@ impl State {
 
     // The word at a place.
     pub fn read(self, p: Place, words: &[u32], flags: &[bool]) -> Word
-        requires { ⌜ (length (now words) ≡ self .m) × (length (now flags) ≡ self .m) × ((ads ss ls : List ℕ) (ms ds : List Bool) → in-memory (place-of p) (boxed (now words) (now flags) ads ss ls ms ds self) ≡ true) ⌝ }
+        requires { ⌜ (length (now words) ≡ self .m) × (length (now flags) ≡ self .m) × Within p (self .m) ⌝ }
         ensures { λ w. ⌜ ((ads ss ls : List ℕ) (ms ds : List Bool) → word-of w ≡ read (place-of p) (boxed (now (words .entry)) (now (flags .entry)) ads ss ls ms ds self)) ⌝ }
     {
         match p {
@@ -95,7 +95,7 @@ impl State {
 
     // Puts a word at a place.
     pub fn write(mut self, p: Place, w: Word, words: &mut [u32], flags: &mut [bool]) -> State
-        requires { ⌜ (length (now words) ≡ self .m) × (length (now flags) ≡ self .m) × ((ads ss ls : List ℕ) (ms ds : List Bool) → in-memory (place-of p) (boxed (now words) (now flags) ads ss ls ms ds self) ≡ true) ⌝ }
+        requires { ⌜ (length (now words) ≡ self .m) × (length (now flags) ≡ self .m) × Within p (self .m) ⌝ }
         ensures { λ s. ⌜ ((ads ss ls : List ℕ) (ms ds : List Bool) → boxed (now (words .exit)) (now (flags .exit)) ads ss ls ms ds s ≡ write (place-of p) (word-of w) (boxed (now (words .entry)) (now (flags .entry)) ads ss ls ms ds self)) ⌝ }
     {
         match p {

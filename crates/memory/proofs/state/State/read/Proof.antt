@@ -1,8 +1,5 @@
 -- `State::read` meets its contract: by the two kinds of place; an address is below M, and so below both lengths. Assumes nothing.
-use mathlib.Core.List.{[]}
 use native.Mathlib.Omega.{arith}
-use denote.Ref.{now}
-use Rattle.memory.specs.Boxed.{boxed}
 use Rattle.memory.proofs.Places.{below-m, read-copy, read-at}
 use borrow.Author.Needs.{needs}
 use Rattle.memory.proofs.state.State.read.Statement.{statement}
@@ -17,13 +14,13 @@ enum-known-p : tie.Need-enum-known-p
 enum-known-p c = search needs
 
 mul-t7 : tie.Need-mul-t7
-mul-t7 c = omega (arith, below-m (c .before .before .before .args .p) (c .before .p .given .0 .0) (boxed (now (c .before .before .before .args .words)) (now (c .before .before .before .args .flags)) [] [] [] [] [] (c .before .before .before .args .self)) (c .before .p .given .1) (c .before .before .before .pre .2 [] [] [] [] []), c .before .before .before .pre .0)
+mul-t7 c = omega (arith, below-m (c .before .before .before .args .p) (c .before .p .given .0 .0) (c .before .before .before .args .self .m) (c .before .p .given .1) (c .before .before .before .pre .2), c .before .before .before .pre .0)
 
 shared-slice-read-t9 : tie.Need-shared-slice-read-t9
-shared-slice-read-t9 c = omega (arith, below-m (c .before .before .before .before .args .p) (c .before .before .p .given .0 .0) (boxed (now (c .before .before .before .before .args .words)) (now (c .before .before .before .before .args .flags)) [] [] [] [] [] (c .before .before .before .before .args .self)) (c .before .before .p .given .1) (c .before .before .before .before .pre .2 [] [] [] [] []), c .before .before .before .before .pre .0)
+shared-slice-read-t9 c = omega (arith, below-m (c .before .before .before .before .args .p) (c .before .before .p .given .0 .0) (c .before .before .before .before .args .self .m) (c .before .before .p .given .1) (c .before .before .before .before .pre .2), c .before .before .before .before .pre .0)
 
 shared-slice-read-t11 : tie.Need-shared-slice-read-t11
-shared-slice-read-t11 c = omega (arith, below-m (c .before .before .before .before .before .args .p) (c .before .before .before .p .given .0 .0) (boxed (now (c .before .before .before .before .before .args .words)) (now (c .before .before .before .before .before .args .flags)) [] [] [] [] [] (c .before .before .before .before .before .args .self)) (c .before .before .before .p .given .1) (c .before .before .before .before .before .pre .2 [] [] [] [] []), c .before .before .before .before .before .pre .1)
+shared-slice-read-t11 c = omega (arith, below-m (c .before .before .before .before .before .args .p) (c .before .before .before .p .given .0 .0) (c .before .before .before .before .before .args .self .m) (c .before .before .before .p .given .1) (c .before .before .before .before .before .pre .2), c .before .before .before .before .before .pre .1)
 
 returns : tie.Need-returns
 returns c ads ss ls ms ds = read-copy _ _ (c .enum-told .given .1)

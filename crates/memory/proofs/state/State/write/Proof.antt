@@ -1,8 +1,5 @@
 -- `State::write` meets its contract: by the two kinds of place; an address is below M, and so below both lengths. Assumes nothing.
-use mathlib.Core.List.{[]}
 use native.Mathlib.Omega.{arith}
-use denote.Ref.{now}
-use Rattle.memory.specs.Boxed.{boxed}
 use Rattle.memory.proofs.Places.{below-m, write-copy, write-at}
 use borrow.Author.Needs.{needs}
 use Rattle.memory.proofs.state.State.write.Statement.{statement}
@@ -17,13 +14,13 @@ enum-known-p : tie.Need-enum-known-p
 enum-known-p c = search needs
 
 mul-words : tie.Need-mul-words
-mul-words c = omega (arith, below-m (c .before .before .before .args .p) (c .before .p .given .0 .0) (boxed (now (c .before .before .before .args .words)) (now (c .before .before .before .args .flags)) [] [] [] [] [] (c .before .before .before .args .self)) (c .before .p .given .1) (c .before .before .before .pre .2 [] [] [] [] []), c .before .before .before .pre .0)
+mul-words c = omega (arith, below-m (c .before .before .before .args .p) (c .before .p .given .0 .0) (c .before .before .before .args .self .m) (c .before .p .given .1) (c .before .before .before .pre .2), c .before .before .before .pre .0)
 
 slice-write-words : tie.Need-slice-write-words
-slice-write-words c = omega (arith, below-m (c .before .before .before .args .p) (c .before .p .given .0 .0) (boxed (now (c .before .before .before .args .words)) (now (c .before .before .before .args .flags)) [] [] [] [] [] (c .before .before .before .args .self)) (c .before .p .given .1) (c .before .before .before .pre .2 [] [] [] [] []), c .before .before .before .pre .0)
+slice-write-words c = omega (arith, below-m (c .before .before .before .args .p) (c .before .p .given .0 .0) (c .before .before .before .args .self .m) (c .before .p .given .1) (c .before .before .before .pre .2), c .before .before .before .pre .0)
 
 slice-write-flags : tie.Need-slice-write-flags
-slice-write-flags c = omega (arith, below-m (c .before .before .before .args .p) (c .before .p .given .0 .0) (boxed (now (c .before .before .before .args .words)) (now (c .before .before .before .args .flags)) [] [] [] [] [] (c .before .before .before .args .self)) (c .before .p .given .1) (c .before .before .before .pre .2 [] [] [] [] []), c .before .before .before .pre .1)
+slice-write-flags c = omega (arith, below-m (c .before .before .before .args .p) (c .before .p .given .0 .0) (c .before .before .before .args .self .m) (c .before .p .given .1) (c .before .before .before .pre .2), c .before .before .before .pre .1)
 
 returns : tie.Need-returns
 returns c ads ss ls ms ds = write-copy _ _ _ (c .enum-told .given .1)
