@@ -1,15 +1,89 @@
--- Laws of a new tuple: what each column and the state become, over any parts. Each computes from the definitions. Assumes nothing.
-use Prim.Native.Nat.{ℕ, _+_, _*_}
-use mathlib.Core.Bool.{Bool, true, false, not, cond}
+-- Laws of a new tuple: whether it finds room and can be made, and what each column and the state become, over any parts.
+-- By computing the definitions under the facts of each case. Assumes nothing.
+use Prim.Native.Nat.{ℕ, _+_, _*_, _-_, _<_, _≤_}
+use native.Mathlib.Omega.{arith}
+use mathlib.Core.Bool.{Bool, true, false, not, cond, _||_}
 use mathlib.Core.List.{List}
-use mathlib.Core.Path.{_≡_, refl}
-use lib.Dec.{eqb}
+use mathlib.Core.Path.{_≡_, refl, sym, _∙_}
+use lib.Dec.{eqb, leb, ltb}
 use lib.ListN.{getD, set}
-use borrow.Author.Tests.{eq-eqb, ne-eqb}
+use borrow.Author.Tests.{eq-eqb, ne-eqb, lt-ltb, le-ltb, le-leb, lt-leb, ltb-true, ltb-false, leb-true, leb-false}
 use Rattle.memory.specs.declared.state.State.{State}
 use Rattle.memory.specs.State.{with-registers, with-flags, with-top, with-free, with-live}
+use Rattle.memory.specs.Box.{Box, is-entry}
 use Rattle.memory.specs.Boxed.{boxed}
-use Rattle.memory.specs.Request.{collecting, new-entry, take-room, new-tuple}
+use Rattle.memory.specs.Request.{no-room, collecting, can-make, new-entry, take-room, new-tuple}
+use Rattle.memory.proofs.Entries.{entry, entry-nil, entry-far}
+use Rattle.memory.proofs.Sizes.{and-left, and-right}
+
+-- ---- tests by subtraction
+
+same-test : (a b : Bool) → (a ≡ true → b ≡ true) → (a ≡ false → b ≡ false) → a ≡ b
+same-test true b f g = sym (f refl)
+same-test false b f g = sym (g refl)
+
+over-test : (m t n : ℕ) → t ≤ m → leb (m - t) n ≡ ltb m (t + n + 1)
+over-test m t n l = same-test (leb (m - t) n) (ltb m (t + n + 1)) (λ e. lt-ltb m (t + n + 1) (omega (arith, leb-true (m - t) n e))) (λ e. le-ltb m (t + n + 1) (omega (arith, leb-false (m - t) n e)))
+
+fits-test : (m t n : ℕ) → t ≤ m → ltb n (m - t) ≡ leb (t + n + 1) m
+fits-test m t n l = same-test (ltb n (m - t)) (leb (t + n + 1) m) (λ e. le-leb (t + n + 1) m (omega (arith, ltb-true n (m - t) e))) (λ e. lt-leb (t + n + 1) m (omega (arith, ltb-false n (m - t) e)))
+
+or-right : (a b : Bool) → (a || b) ≡ false → b ≡ false
+or-right true true p = p
+or-right true false p = refl
+or-right false b p = p
+
+-- ---- whether there is room
+
+module _ (n : ℕ) (b : Box) where
+  pub no-handle : b .state .free ≡ 0 → true ≡ no-room n b
+  unfolding no-room
+  no-handle z = simp (eq-eqb (b .state .free) 0 z)
+
+  pub top-over : (b .state .free ≡ 0 → ⊥) → b .state .m < b .state .top → true ≡ no-room n b
+  unfolding no-room
+  top-over f o = simp (ne-eqb (b .state .free) 0 f, lt-ltb (b .state .m) (b .state .top + n + 1) (omega arith))
+
+  pub by-rest : (b .state .free ≡ 0 → ⊥) → b .state .top ≤ b .state .m → leb (b .state .m - b .state .top) n ≡ no-room n b
+  unfolding no-room
+  by-rest f o = simp (ne-eqb (b .state .free) 0 f, over-test (b .state .m) (b .state .top) n o)
+
+  pub room-top : no-room n b ≡ false → b .state .top + n + 1 ≤ b .state .m
+  unfolding no-room
+  room-top t = ltb-false (b .state .m) (b .state .top + n + 1) (or-right (eqb (b .state .free) 0) _ t)
+
+-- ---- whether it can be made
+
+module _ (n : ℕ) (b : Box) where
+  pub make-nil : b .state .free ≡ 0 → false ≡ can-make n b
+  unfolding can-make
+  make-nil z = simp (entry-nil (b .state .free) b z)
+
+  pub make-far : b .state .h ≤ b .state .free → false ≡ can-make n b
+  unfolding can-make
+  make-far f = simp (entry-far (b .state .free) b f)
+
+  pub make-rest : (b .state .free ≡ 0 → ⊥) → b .state .free < b .state .h → b .state .phase ≡ 0 → true ≡ can-make n b
+  unfolding can-make collecting
+  make-rest f q z = simp (entry (b .state .free) b (omega arith) q, eq-eqb (b .state .phase) 0 z)
+
+  pub make-over : (b .state .free ≡ 0 → ⊥) → b .state .free < b .state .h → (b .state .phase ≡ 0 → ⊥) → b .state .m < b .state .live → false ≡ can-make n b
+  unfolding can-make collecting
+  make-over f q z o = simp (entry (b .state .free) b (omega arith) q, ne-eqb (b .state .phase) 0 z, lt-leb (b .state .live + n + 1) (b .state .m) (omega arith))
+
+  pub make-by-rest : (b .state .free ≡ 0 → ⊥) → b .state .free < b .state .h → (b .state .phase ≡ 0 → ⊥) → b .state .live ≤ b .state .m → ltb n (b .state .m - b .state .live) ≡ can-make n b
+  unfolding can-make collecting
+  make-by-rest f q z o = simp (entry (b .state .free) b (omega arith) q, ne-eqb (b .state .phase) 0 z, fits-test (b .state .m) (b .state .live) n o)
+
+  pub make-entry : can-make n b ≡ true → b .state .free < b .state .h
+  unfolding can-make is-entry
+  make-entry t = ltb-true (b .state .free) (b .state .h) (and-right (leb 1 (b .state .free)) _ (and-left (is-entry (b .state .free) b) _ t))
+
+  pub make-live : can-make n b ≡ true → (b .state .phase ≡ 0 → ⊥) → b .state .live + n + 1 ≤ b .state .m
+  unfolding can-make collecting
+  make-live t z = leb-true _ _ (simp (ne-eqb (b .state .phase) 0 z) at (and-right (is-entry (b .state .free) b) _ t))
+
+-- ---- what it leaves
 
 -- in Rest live is as it was
 pub rest-live : (p l k : ℕ) → p ≡ 0 → l ≡ cond (not (eqb p 0)) k l

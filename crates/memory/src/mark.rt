@@ -1,28 +1,16 @@
 // The collector's marking: the phases 0 to 3. Each method is the rule of that name in specs/Collector.antt.
 use crate::state::Answered;
 use crate::state::State;
+use crate::word::Word;
 ghost use mathlib.Core.Bool.{Bool, true};
 ghost use mathlib.Core.List.{List};
 ghost use mathlib.Core.Path.{_≡_};
 ghost use Prim.Native.Nat.{ℕ, _+_, _<_, _≤_};
 ghost use lib.Dec.{ltb};
 ghost use lib.ListN.{length};
-ghost use Rattle.memory.specs.Box.{reply, names-tuple};
+ghost use Rattle.memory.specs.Box.{reply};
 ghost use Rattle.memory.specs.Boxed.{boxed};
 ghost use Rattle.memory.specs.Collector.{rest, scan, scan-next, scan-word, scan-current, mark-scan, mark-add};
-
-// The words of a half: a pointer's handle is above it, its offset below.
-const HALF_WORD: u32 = 65536;
-
-// Whether a word is a pointer other than nil.
-pub fn names_tuple(bits: u32, flag: bool) -> bool
-    ensures { λ r. ⌜ r ≡ names-tuple (record { bits = bits; flag = flag }) ⌝ }
-{
-    if flag {
-        return bits / HALF_WORD != 0;
-    }
-    false
-}
 
 impl State {
     // Whether the address base + offset is one of memory.
@@ -120,11 +108,13 @@ impl State {
         let src = self.src;
         let index = self.index;
         let at = (src + index) as usize;
-        let bits = words[at];
-        let flag = flags[at];
+        let word = Word {
+            bits: words[at],
+            flag: flags[at],
+        };
         self.index = index + 1;
-        if names_tuple(bits, flag) {
-            self.tuple = bits / HALF_WORD;
+        if word.names_tuple() {
+            self.tuple = word.handle();
             self.phase = 3;
             return self;
         }

@@ -8,7 +8,7 @@ ghost use lib.Dec.{eqb};
 ghost use lib.ListN.{length, set};
 ghost use Rattle.memory.specs.State.{with-registers, with-flags, with-top, with-free, with-live};
 ghost use Rattle.memory.specs.Boxed.{boxed};
-ghost use Rattle.memory.specs.Request.{new-tuple};
+ghost use Rattle.memory.specs.Request.{no-room, can-make, new-tuple, hold};
 
 // Two halves of 16 bits as one word: a handle above an offset, or above a tag.
 pub fn packed(upper: u32, lower: u32) -> u32
@@ -27,6 +27,61 @@ impl State {
         let i = r as usize;
         self.registers[i] = bits;
         self.flags[i] = flag;
+        self
+    }
+
+    // Whether a new tuple of n words finds no room: no free handle, or top + n + 1 above M.
+    pub fn no_room(self, n: u16) -> bool
+        ensures { λ r. ⌜ ((ws : List ℕ) (fs : List Bool) (ads ss ls : List ℕ) (ms ds : List Bool) → r ≡ no-room n (boxed ws fs ads ss ls ms ds self)) ⌝ }
+    {
+        let size = n as u32;
+        let free = self.free;
+        let top = self.top;
+        let m = self.m;
+        if free == 0 {
+            return true;
+        }
+        if m < top {
+            return true;
+        }
+        m - top <= size
+    }
+
+    // Whether a new tuple of n words that finds room can be made: its handle can be looked up, and outside Rest live + n + 1 is
+    // not above M.
+    pub fn can_make(self, n: u16) -> bool
+        ensures { λ r. ⌜ ((ws : List ℕ) (fs : List Bool) (ads ss ls : List ℕ) (ms ds : List Bool) → r ≡ can-make n (boxed ws fs ads ss ls ms ds self)) ⌝ }
+    {
+        let size = n as u32;
+        let free = self.free;
+        let entries = self.h;
+        let phase = self.phase;
+        let live = self.live;
+        let m = self.m;
+        if free == 0 {
+            return false;
+        }
+        if entries <= free {
+            return false;
+        }
+        if phase == 0 {
+            return true;
+        }
+        if m < live {
+            return false;
+        }
+        size < m - live
+    }
+
+    // The state with a GETM put on hold; no cycle has begun under it yet.
+    pub fn put_on_hold(mut self, r: u16, n: u16, tag: u16) -> State
+        ensures { λ s. ⌜ ((ws : List ℕ) (fs : List Bool) (ads ss ls : List ℕ) (ms ds : List Bool) → boxed ws fs ads ss ls ms ds s ≡ hold r n tag (boxed ws fs ads ss ls ms ds self)) ⌝ }
+    {
+        self.held = true;
+        self.begun = false;
+        self.hold_register = r;
+        self.hold_size = n;
+        self.hold_tag = tag;
         self
     }
 
