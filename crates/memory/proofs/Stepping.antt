@@ -1,0 +1,18 @@
+-- One step: where the sizes are right it is the rule of the phase, and else 9. By computing the definitions. Assumes nothing.
+use Prim.Native.Nat.{ℕ}
+use mathlib.Core.Bool.{Bool, true, false}
+use mathlib.Core.Path.{_≡_, sym, ap, _∙_}
+use Rattle.memory.specs.Box.{Box, Reply, reply, sound}
+use Rattle.memory.specs.Collector.{rule-of, step}
+
+module _ (b : Box) where
+  pub rule-at : (k : ℕ) (x : Reply) → b .state .phase ≡ k → x ≡ rule-of k b → x ≡ rule-of (b .state .phase) b
+  rule-at k x z q = q ∙ sym (ap (λ (p : ℕ). rule-of p b) z)
+
+  pub step-sound : (x : Reply) → sound b ≡ true → x ≡ rule-of (b .state .phase) b → x ≡ step b
+  unfolding step
+  step-sound x t q = simp (t, q)
+
+  pub step-refused : sound b ≡ false → reply b 9 ≡ step b
+  unfolding step
+  step-refused t = simp t
