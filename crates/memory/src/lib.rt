@@ -11,9 +11,12 @@ mod root;
 mod shade;
 mod sound;
 mod state;
+mod steps;
 mod sweep;
 mod tuple;
 mod word;
 
 pub use request::Request;
+pub use state::Answered;
 pub use state::State;
+pub use steps::step;
