@@ -1,8 +1,10 @@
 // The memory unit: a memory of tagged words, a directory of tuples, eight registers, and a collector that does one
 // small step at a time. The lent parts are seven columns, in this order everywhere: words, flags (M each; flag true
 // means pointer), addresses, sizes, links, marks, deeps (H each). What each call does is said in specs/.
+mod access;
 mod find;
 mod place;
+mod registers;
 mod request;
 mod shade;
 mod sound;
