@@ -3,7 +3,7 @@ use Prim.Native.Nat.{ℕ, _+_}
 use mathlib.Core.Bool.{Bool, true, cond, _&&_, _||_}
 use lib.Dec.{leb, ltb, eqb}
 use Rattle.memory.specs.State.{with-copy, with-copy-flag, with-live, with-next}
-use Rattle.memory.specs.Box.{Box, Word, Reply, reply, with-state, word-at, put, copy-register, address, size-of, marked, deep, set-link, set-mark, is-entry}
+use Rattle.memory.specs.Box.{Box, Word, with-state, word-at, put, copy-register, address, size-of, marked, deep, set-link, set-mark, is-entry}
 
 -- where a word is: in the copy register, or at an address of memory
 pub data Place : Type 0 where
@@ -50,7 +50,3 @@ mark-live h b = set-mark h true (with-state (with-live (b .state .live + size-of
 -- if unmarked, mark, add size + 1 to live, and if deep put it at the head of the next list
 unfoldable pub shade : ℕ → Box → Box
 shade h b = cond (marked h b) b (cond (deep h b) (list-next h (mark-live h b)) (mark-live h b))
-
--- shading as a rule that may be refused: 30, or 9 with the box as found
-abbrev pub shading : ℕ → Box → Reply
-shading h b = cond (can-shade h b) (reply (shade h b) 30) (reply b 9)

@@ -3,6 +3,7 @@
 // means pointer), addresses, sizes, links, marks, deeps (H each). What each call does is said in specs/.
 mod access;
 mod find;
+mod mark;
 mod place;
 mod registers;
 mod request;
