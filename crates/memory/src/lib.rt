@@ -10,6 +10,7 @@ mod request;
 mod shade;
 mod sound;
 mod state;
+mod store;
 mod tuple;
 mod word;
 
