@@ -3,10 +3,11 @@
 // means pointer), addresses, sizes, links, marks, deeps (H each). What each call does is said in specs/.
 mod access;
 mod find;
+mod kinds;
 mod mark;
 mod place;
 mod registers;
-mod request;
+mod requests;
 mod shade;
 mod sound;
 mod state;
@@ -14,5 +15,6 @@ mod store;
 mod tuple;
 mod word;
 
-pub use request::Request;
+pub use kinds::Request;
+pub use requests::request;
 pub use state::State;

@@ -7,7 +7,7 @@ ghost use mathlib.Core.Bool.{Bool};
 ghost use mathlib.Core.List.{List};
 ghost use mathlib.Core.Path.{_≡_};
 ghost use Prim.Native.Nat.{ℕ, _<_};
-ghost use Rattle.memory.specs.Box.{reply, data-word, register, put-register};
+ghost use Rattle.memory.specs.Box.{reply, data-word, pointer, register, put-register};
 ghost use Rattle.memory.specs.Boxed.{boxed, word-of};
 ghost use Rattle.memory.specs.Request.{done, advance, same-word, same};
 
@@ -41,6 +41,20 @@ impl State {
             Word {
                 bits: v,
                 flag: false,
+            },
+        )
+    }
+
+    // Register r becomes nil. Answers 0.
+    pub fn set_nil(self, r: u16) -> Answered
+        requires { ⌜ r < 8 ⌝ }
+        ensures { λ a. ⌜ ((ws : List ℕ) (fs : List Bool) (ads ss ls : List ℕ) (ms ds : List Bool) → reply (boxed ws fs ads ss ls ms ds (a .state)) (a .answer) ≡ done (put-register r (pointer 0 0) (boxed ws fs ads ss ls ms ds self))) ⌝ }
+    {
+        self.set_register(
+            r,
+            Word {
+                bits: 0,
+                flag: true,
             },
         )
     }
