@@ -5,6 +5,7 @@ mod access;
 mod find;
 mod kinds;
 mod mark;
+mod opening;
 mod place;
 mod registers;
 mod requests;
@@ -16,5 +17,6 @@ mod tuple;
 mod word;
 
 pub use kinds::Request;
+pub use opening::open;
 pub use requests::request;
 pub use state::State;
