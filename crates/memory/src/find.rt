@@ -63,4 +63,23 @@ impl State {
         }
         Found::NotFound(9)
     }
+
+    // The word that s, its offset and k name. Data is refused with 2, nil and a word beyond the size with 3, a handle or a
+    // place that is outside with 9.
+    pub fn find_word(self, s: u16, k: u16, addresses: &[u32], sizes: &[u32]) -> Found
+        requires { ⌜ (length (now addresses) ≡ self .h) × (length (now sizes) ≡ self .h) × (s < 8) ⌝ }
+        ensures { λ r. ⌜ ((ws : List ℕ) (fs : List Bool) (ls : List ℕ) (ms ds : List Bool) (f : Use) → when-found r (boxed ws fs (now (addresses .entry)) (now (sizes .entry)) ls ms ds self) f ≡ at-tuple (register s (boxed ws fs (now (addresses .entry)) (now (sizes .entry)) ls ms ds self)) (boxed ws fs (now (addresses .entry)) (now (sizes .entry)) ls ms ds self) (reply (boxed ws fs (now (addresses .entry)) (now (sizes .entry)) ls ms ds self) 3) (λ h. at-word h (word-number (register s (boxed ws fs (now (addresses .entry)) (now (sizes .entry)) ls ms ds self)) k) (boxed ws fs (now (addresses .entry)) (now (sizes .entry)) ls ms ds self) (f h))) ⌝ }
+        ensures { λ r. ⌜ RightSlot r self ⌝ }
+    {
+        let offset = self.register(s).offset();
+        let t = self.find_tuple(s);
+        match t {
+            Named::Tuple(h) => {
+                let n = offset + k as u32;
+                self.find_slot(h, n, addresses, sizes)
+            }
+            Named::Nil => Found::NotFound(3),
+            Named::NotNamed(a) => Found::NotFound(a),
+        }
+    }
 }

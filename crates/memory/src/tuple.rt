@@ -1,14 +1,16 @@
 // A new tuple: the work of GETM, carried out at once or at the end of a cycle.
+use crate::state::Answered;
 use crate::state::State;
-ghost use mathlib.Core.Bool.{Bool, not, cond};
+ghost use mathlib.Core.Bool.{Bool, true, not, cond};
 ghost use mathlib.Core.List.{List};
 ghost use mathlib.Core.Path.{_≡_};
 ghost use Prim.Native.Nat.{ℕ, _+_, _*_, _<_, _≤_};
 ghost use lib.Dec.{eqb};
 ghost use lib.ListN.{length, set};
 ghost use Rattle.memory.specs.State.{with-registers, with-flags, with-top, with-free, with-live};
+ghost use Rattle.memory.specs.Box.{reply, sound};
 ghost use Rattle.memory.specs.Boxed.{boxed};
-ghost use Rattle.memory.specs.Request.{no-room, can-make, new-tuple, hold};
+ghost use Rattle.memory.specs.Request.{no-room, can-make, new-tuple, hold, getm};
 
 // Two halves of 16 bits as one word: a handle above an offset, or above a tag.
 pub fn packed(upper: u32, lower: u32) -> u32
@@ -136,5 +138,56 @@ impl State {
         marks[i] = phase != 0;
         deeps[i] = false;
         self.take_room(n, link).put_register(r, pointer, true)
+    }
+
+    // GETM: a new tuple of n words, and r points to it. Answers 0; 5 where n + 1 is above M; 7 where there is no room, and then
+    // only the hold is set; 9 where it cannot be made.
+    pub fn getm(
+        self,
+        r: u16,
+        n: u16,
+        tag: u16,
+        words: &mut [u32],
+        flags: &mut [bool],
+        addresses: &mut [u32],
+        sizes: &mut [u32],
+        links: &[u32],
+        marks: &mut [bool],
+        deeps: &mut [bool],
+    ) -> Answered
+        requires { ⌜ (sound (boxed (now words) (now flags) (now addresses) (now sizes) (now links) (now marks) (now deeps) self) ≡ true) × (r < 8) ⌝ }
+        ensures { λ a. ⌜ reply (boxed (now (words .exit)) (now (flags .exit)) (now (addresses .exit)) (now (sizes .exit)) (now (links .entry)) (now (marks .exit)) (now (deeps .exit)) (a .state)) (a .answer) ≡ getm r n tag (boxed (now (words .entry)) (now (flags .entry)) (now (addresses .entry)) (now (sizes .entry)) (now (links .entry)) (now (marks .entry)) (now (deeps .entry)) self) ⌝ }
+    {
+        let m = self.m;
+        let size = n as u32;
+        if m <= size {
+            return Answered {
+                state: self,
+                answer: 5,
+            };
+        }
+        if self.no_room(n) {
+            let state = self.put_on_hold(r, n, tag);
+            return Answered { state, answer: 7 };
+        }
+        if self.can_make(n) {
+            let state = self.new_tuple(
+                r,
+                n,
+                tag,
+                words,
+                flags,
+                addresses,
+                sizes,
+                links,
+                marks,
+                deeps,
+            );
+            return Answered { state, answer: 0 };
+        }
+        Answered {
+            state: self,
+            answer: 9,
+        }
     }
 }
