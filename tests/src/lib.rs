@@ -1,0 +1,15 @@
+//! An independent second program for the SURE memory unit, and the checks
+//! that hold a list of calls against the history machine.
+
+pub mod call;
+pub mod checker;
+pub mod fault;
+pub mod history;
+pub mod random;
+pub mod unit;
+
+pub use call::{Call, Request};
+pub use checker::Checker;
+pub use fault::Fault;
+pub use history::History;
+pub use unit::{Hold, Ran, State, Unit, Word};
