@@ -1,2 +1,3 @@
 pub mod Inv
 pub mod Lists
+pub mod Chain
