@@ -1,3 +1,4 @@
 pub mod Inv
 pub mod Lists
 pub mod Chain
+pub mod Laid
