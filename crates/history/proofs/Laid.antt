@@ -1,6 +1,6 @@
 -- Tuples that lie end to end, and the words they take: where each lies, that no two meet, what keeps the layout, and the sums of
 -- sizes over a list of handles. Each by induction on the list. Assumes nothing.
-use Prim.Native.Nat.{ℕ, zero, suc, _+_, _≤_, _<_}
+use Prim.Native.Nat.{ℕ, _+_, _≤_, _<_}
 use mathlib.Core.Bool.{Bool, true, false, cond}
 use mathlib.Core.List.{List, [], _∷_, _++_}
 use mathlib.Core.Logic.{_≢_, _⊎_, inl, inr}

@@ -1,6 +1,6 @@
 -- Lists of handles: membership in and distinctness of an appended list, permutations and what they keep, and the moves of one
 -- handle between the four parts of `all` (done, mid, ahead, free). Each by induction on a list or on a permutation. Assumes nothing.
-use Prim.Native.Nat.{ℕ, zero, suc}
+use Prim.Native.Nat.{ℕ, suc}
 use mathlib.Core.List.{List, [], _∷_, _++_, append-nil, append-assoc}
 use mathlib.Core.Logic.{_≢_, _⊎_, inl, inr}
 use mathlib.Core.Path.{_≡_, refl, sym, ap, _∙_, subst}
@@ -52,7 +52,7 @@ member? x (y ∷ ys) = decide (ℕ-discrete x y) (member? x ys)
         neither (inl e) = f e
         neither (inr m) = g m
 
--- two members, one of them missing from the list, differ
+-- a member differs from what is no member
 pub member-differs : (x y : ℕ) (xs : List ℕ) → Member x xs → ¬ Member y xs → x ≢ y
 member-differs x y xs m f e = f (member-equal y x xs (sym e) m)
 
