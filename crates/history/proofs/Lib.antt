@@ -1,2 +1,5 @@
 pub mod Inv
 pub mod Words
+pub mod Lists
+pub mod Chain
+pub mod Laid
