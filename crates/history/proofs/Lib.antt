@@ -3,3 +3,5 @@ pub mod Words
 pub mod Lists
 pub mod Chain
 pub mod Laid
+pub mod Frame
+pub mod Resting
