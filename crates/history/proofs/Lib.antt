@@ -5,3 +5,5 @@ pub mod Chain
 pub mod Laid
 pub mod Frame
 pub mod Resting
+pub mod Relation
+pub mod RelationKept
