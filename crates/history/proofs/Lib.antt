@@ -1,1 +1,2 @@
 pub mod Inv
+pub mod View
