@@ -9,6 +9,7 @@ use borrow.Author.Tests.{leb-true, leb-false, ltb-true, ltb-false, eqb-true, eqb
 use lib.Dec.{T, leb, ltb, eqb}
 use Rattle.memory.specs.Box.{Box, is-entry, size-of, marked}
 use Rattle.memory.specs.Place.{can-shade, shade}
+use Rattle.memory.specs.Request.{no-room, collecting, can-make}
 
 -- ---- tests
 
@@ -115,3 +116,49 @@ can-shade-total h b e t l = simp (entry-true h b e, t, lt-leb (b .state .live + 
 pub shade-marked : (h : ℕ) (b : Box) → marked h b ≡ true → shade h b ≡ b
 unfolding shade
 shade-marked h b t = simp t
+
+-- ---- room for a new tuple of n words: a free handle, and top + n + 1 within M
+
+abbrev pub NoRoom : ℕ → Box → Type 0
+NoRoom n b = (b .state .free ≡ 0) ⊎ (b .state .m < b .state .top + n + 1)
+
+abbrev pub Room : ℕ → Box → Type 0
+Room n b = (b .state .free ≢ 0) × (b .state .top + n + 1 ≤ b .state .m)
+
+pub room? : (n : ℕ) (b : Box) → NoRoom n b ⊎ Room n b
+room? n b = go (eq? (b .state .free) 0) (le? (b .state .top + n + 1) (b .state .m))
+  where
+    go : (b .state .free ≡ 0) ⊎ (b .state .free ≢ 0) → (b .state .top + n + 1 ≤ b .state .m) ⊎ (b .state .m < b .state .top + n + 1) → NoRoom n b ⊎ Room n b
+    go (inl z) l = inl (inl z)
+    go (inr f) (inl l) = inr (f, l)
+    go (inr f) (inr l) = inl (inr l)
+
+pub no-room-true : (n : ℕ) (b : Box) → NoRoom n b → no-room n b ≡ true
+unfolding no-room
+no-room-true n b (inl z) = simp (eq-eqb (b .state .free) 0 z)
+no-room-true n b (inr l) = go (eq? (b .state .free) 0)
+  where
+    go : (b .state .free ≡ 0) ⊎ (b .state .free ≢ 0) → no-room n b ≡ true
+    go (inl z) = simp (eq-eqb (b .state .free) 0 z)
+    go (inr f) = simp (ne-eqb (b .state .free) 0 f, lt-ltb (b .state .m) (b .state .top + n + 1) l)
+
+pub no-room-false : (n : ℕ) (b : Box) → Room n b → no-room n b ≡ false
+unfolding no-room
+no-room-false n b r = simp (ne-eqb (b .state .free) 0 (r .0), le-ltb (b .state .m) (b .state .top + n + 1) (r .1))
+
+-- the free handle can be looked up, and outside Rest the total stays within M
+pub can-make-rest : (n : ℕ) (b : Box) → Entry (b .state .free) b → b .state .phase ≡ 0 → can-make n b ≡ true
+unfolding can-make collecting
+can-make-rest n b e p = simp (entry-true (b .state .free) b e, eq-eqb (b .state .phase) 0 p)
+
+pub can-make-counted : (n : ℕ) (b : Box) → Entry (b .state .free) b → b .state .phase ≢ 0 → b .state .live + n + 1 ≤ b .state .m → can-make n b ≡ true
+unfolding can-make collecting
+can-make-counted n b e p l = simp (entry-true (b .state .free) b e, ne-eqb (b .state .phase) 0 p, le-leb (b .state .live + n + 1) (b .state .m) l)
+
+pub can-make-lost : (n : ℕ) (b : Box) → ¬ Entry (b .state .free) b → can-make n b ≡ false
+unfolding can-make
+can-make-lost n b e = simp (entry-false (b .state .free) b e)
+
+pub can-make-total : (n : ℕ) (b : Box) → Entry (b .state .free) b → b .state .phase ≢ 0 → b .state .m < b .state .live + n + 1 → can-make n b ≡ false
+unfolding can-make collecting
+can-make-total n b e p l = simp (entry-true (b .state .free) b e, ne-eqb (b .state .phase) 0 p, lt-leb (b .state .live + n + 1) (b .state .m) l)
