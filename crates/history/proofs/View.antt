@@ -2,3 +2,4 @@
 pub mod Fact
 pub mod Step
 pub mod End
+pub mod Request
