@@ -1,14 +1,13 @@
 -- The view of the end of a cycle: for the box before the step and the box as its rule leaves it, which of the five outcomes the
 -- cycle ends with, and the facts that led there. They speak of the box that the rule leaves: rest changes only live and the
 -- phase, so they are the facts of the box at rest. Assumes nothing.
-use Prim.Native.Nat.{ℕ, _+_, _≤_, _<_}
-use mathlib.Core.Bool.{Bool, true, false, not, cond, _&&_, _||_}
+use Prim.Native.Nat.{_+_, _≤_, _<_}
+use mathlib.Core.Bool.{true, false}
 use mathlib.Core.Logic.{_≢_, _⊎_, inl, inr}
 use mathlib.Core.Path.{_≡_, refl, _∙_}
 use borrow.Author.Tests.{lt-ltb, le-ltb}
 use Rattle.memory.specs.Limits.{register-count}
-use Rattle.memory.specs.Box.{Box, Reply, reply}
-use Rattle.memory.specs.Request.{no-room, can-make}
+use Rattle.memory.specs.Box.{Box, reply}
 use Rattle.memory.specs.Collector.{at-rest, unheld, granted, try-held, settle, end-cycle}
 use Rattle.history.proofs.View.Fact.{lt?, true?, Entry, entry?, Room, NoRoom, room?, no-room-true, no-room-false, can-make-rest, can-make-lost}
 

@@ -2,12 +2,11 @@
 -- there and the equation for the reply. The tests are decided in the order of document 01; each leaf is the rule rewritten by the
 -- answers. Assumes nothing.
 use Prim.Native.Nat.{ℕ, _+_, _≤_, _<_}
-use mathlib.Core.Bool.{Bool, true, false, not, cond, _&&_, _||_}
+use mathlib.Core.Bool.{true, false, not, cond, _&&_}
 use mathlib.Core.Logic.{_≢_, _⊎_, inl, inr}
-use mathlib.Core.Path.{_≡_, refl, _∙_}
+use mathlib.Core.Path.{_≡_, _∙_}
 use native.Mathlib.Omega.{arith}
 use borrow.Author.Tests.{ltb-true, not-true, lt-ltb, le-ltb, le-leb, lt-leb, eq-eqb, ne-eqb}
-use lib.Dec.{leb, ltb, eqb}
 use Rattle.memory.specs.declared.request.Request.{Request}
 use Rattle.memory.specs.declared.request.Request.the-variants.{Setd, Nil, Move, Advance, Getm, Load, Store, Size, Tag, Same}
 use Rattle.memory.specs.Limits.{half-word, register-count}
@@ -46,9 +45,9 @@ pub record There (s k : ℕ) (b : Box) : Type 0 where
   pub somewhere : in-memory (place-of s k b) b ≡ true
 
 pub data Asked (b : Box) : Request → Type 0 where
-  unsound : {q : Request} → sound b ≡ false → request q b ≡ reply b 9 → Asked b q
+  refuses-unsound : {q : Request} → sound b ≡ false → request q b ≡ reply b 9 → Asked b q
   refuses : {q : Request} (a : ℕ) → a ≢ 0 → a ≢ 7 → a ≢ 9 → request q b ≡ reply b a → Asked b q
-  nine : {q : Request} → sound b ≡ true → b .state .held ≡ false → Loss b → request q b ≡ reply b 9 → Asked b q
+  refuses-lost : {q : Request} → sound b ≡ true → b .state .held ≡ false → Loss b → request q b ≡ reply b 9 → Asked b q
   -- 5, put on hold
   holds : {r n t : ℕ} → sound b ≡ true → b .state .held ≡ false → r < register-count → n + 1 ≤ b .state .m → NoRoom n b
       → request (Getm r n t) b ≡ reply (hold r n t b) 7 → Asked b (Getm r n t)
@@ -226,16 +225,24 @@ getm-view r n t b q l = by-size (le? (n + 1) (b .state .m))
   where
     by-total : n + 1 ≤ b .state .m → Room n b → Entry (b .state .free) b → b .state .phase ≢ 0
         → (b .state .live + n + 1 ≤ b .state .m) ⊎ (b .state .m < b .state .live + n + 1) → Asked b (Getm r n t)
-    by-total z m e p (inl v) = makes (q .sound-is) (q .free-is) l z (m .0) (m .1) e (inr v) (q .rule ∙ simp (le-leb (n + 1) (b .state .m) z, no-room-false n b m, can-make-counted n b e p v))
-    by-total z m e p (inr v) = nine (q .sound-is) (q .free-is) (free-total n z m e p v) (q .rule ∙ simp (le-leb (n + 1) (b .state .m) z, no-room-false n b m, can-make-total n b e p v))
+    by-total z m e p (inl v) =
+        makes (q .sound-is) (q .free-is) l z (m .0) (m .1) e (inr v)
+        (q .rule ∙ simp (le-leb (n + 1) (b .state .m) z, no-room-false n b m, can-make-counted n b e p v))
+    by-total z m e p (inr v) =
+        refuses-lost (q .sound-is) (q .free-is) (free-total n z m e p v)
+        (q .rule ∙ simp (le-leb (n + 1) (b .state .m) z, no-room-false n b m, can-make-total n b e p v))
 
     by-phase : n + 1 ≤ b .state .m → Room n b → Entry (b .state .free) b → (b .state .phase ≡ 0) ⊎ (b .state .phase ≢ 0) → Asked b (Getm r n t)
-    by-phase z m e (inl p) = makes (q .sound-is) (q .free-is) l z (m .0) (m .1) e (inl p) (q .rule ∙ simp (le-leb (n + 1) (b .state .m) z, no-room-false n b m, can-make-rest n b e p))
+    by-phase z m e (inl p) =
+        makes (q .sound-is) (q .free-is) l z (m .0) (m .1) e (inl p)
+        (q .rule ∙ simp (le-leb (n + 1) (b .state .m) z, no-room-false n b m, can-make-rest n b e p))
     by-phase z m e (inr p) = by-total z m e p (le? (b .state .live + n + 1) (b .state .m))
 
     by-entry : n + 1 ≤ b .state .m → Room n b → Entry (b .state .free) b ⊎ (¬ Entry (b .state .free) b) → Asked b (Getm r n t)
     by-entry z m (inl e) = by-phase z m e (eq? (b .state .phase) 0)
-    by-entry z m (inr e) = nine (q .sound-is) (q .free-is) (free-lost n z m e) (q .rule ∙ simp (le-leb (n + 1) (b .state .m) z, no-room-false n b m, can-make-lost n b e))
+    by-entry z m (inr e) =
+        refuses-lost (q .sound-is) (q .free-is) (free-lost n z m e)
+        (q .rule ∙ simp (le-leb (n + 1) (b .state .m) z, no-room-false n b m, can-make-lost n b e))
 
     by-room : n + 1 ≤ b .state .m → NoRoom n b ⊎ Room n b → Asked b (Getm r n t)
     by-room z (inl m) = holds (q .sound-is) (q .free-is) l z m (q .rule ∙ simp (le-leb (n + 1) (b .state .m) z, no-room-true n b m))
@@ -251,18 +258,24 @@ load-view r s k b q l m = by-pointer (points (register s b) b)
   where
     by-place : names-tuple (register s b) ≡ true → Entry (named s b) b → number s k b < size-of (named s b) b
         → (in-memory (place-of s k b) b ≡ true) ⊎ (in-memory (place-of s k b) b ≡ false) → Asked b (Load r s k)
-    by-place n e i (inl p) = loads (q .sound-is) (q .free-is) l m (record { is-pointer = n; entry = e; inside = i; somewhere = p }) (q .rule ∙ simp (at-entry (register s b) b n e, word-there (named s b) (number s k b) b i p))
-    by-place n e i (inr p) = nine (q .sound-is) (q .free-is) (place-past s m n e (number s k b + 1) (omega arith) p) (q .rule ∙ simp (at-entry (register s b) b n e, word-past (named s b) (number s k b) b i p))
+    by-place n e i (inl p) =
+        loads (q .sound-is) (q .free-is) l m (record { is-pointer = n; entry = e; inside = i; somewhere = p })
+        (q .rule ∙ simp (at-entry (register s b) b n e, word-there (named s b) (number s k b) b i p))
+    by-place n e i (inr p) =
+        refuses-lost (q .sound-is) (q .free-is) (place-past s m n e (number s k b + 1) (omega arith) p)
+        (q .rule ∙ simp (at-entry (register s b) b n e, word-past (named s b) (number s k b) b i p))
 
     by-number : names-tuple (register s b) ≡ true → Entry (named s b) b
         → (number s k b < size-of (named s b) b) ⊎ (size-of (named s b) b ≤ number s k b) → Asked b (Load r s k)
     by-number n e (inl i) = by-place n e i (true? (in-memory (place-of s k b) b))
-    by-number n e (inr i) = refuses 3 (omega arith) (omega arith) (omega arith) (q .rule ∙ simp (at-entry (register s b) b n e, word-beyond (named s b) (number s k b) b i))
+    by-number n e (inr i) =
+        refuses 3 (omega arith) (omega arith) (omega arith)
+        (q .rule ∙ simp (at-entry (register s b) b n e, word-beyond (named s b) (number s k b) b i))
 
     by-pointer : Points (register s b) b → Asked b (Load r s k)
     by-pointer (to-data d) = refuses 2 (omega arith) (omega arith) (omega arith) (q .rule ∙ simp (at-data (register s b) b d))
     by-pointer (to-nil f z) = refuses 3 (omega arith) (omega arith) (omega arith) (q .rule ∙ simp (at-nil (register s b) b f z))
-    by-pointer (to-lost n e) = nine (q .sound-is) (q .free-is) (handle-lost s m n e) (q .rule ∙ simp (at-lost (register s b) b n e))
+    by-pointer (to-lost n e) = refuses-lost (q .sound-is) (q .free-is) (handle-lost s m n e) (q .rule ∙ simp (at-lost (register s b) b n e))
     by-pointer (to-tuple n e) = by-number n e (lt? (number s k b) (size-of (named s b) b))
 
 -- the word stored is settled last, once its place is known
@@ -272,26 +285,40 @@ store-view r s k b q l m = by-pointer (points (register s b) b)
   where
     by-stored : There s k b → carry-out (Store r s k) b ≡ store-word (register r b) (named s b) (place-of s k b) b → Stored (register r b) b → Asked b (Store r s k)
     by-stored p f (as-data n) = stores-data (q .sound-is) (q .free-is) l m p n (q .rule ∙ (f ∙ store-data (register r b) (named s b) (place-of s k b) b n))
-    by-stored p f (as-late n v) = stores-late (q .sound-is) (q .free-is) l m p n v (q .rule ∙ (f ∙ store-late (register r b) (named s b) (place-of s k b) b n (shades-late (register r b) b n v)))
-    by-stored p f (as-early n a z (shaded e t)) = stores-marked (q .sound-is) (q .free-is) l m p n a z e t (q .rule ∙ (f ∙ (store-early (register r b) (named s b) (place-of s k b) b n (shades-early (register r b) b n a z) (can-shade-marked (named r b) b e t) ∙ simp (shade-marked (named r b) b t))))
-    by-stored p f (as-early n a z (unshaded e t v)) = stores-unmarked (q .sound-is) (q .free-is) l m p n a z e t v (q .rule ∙ (f ∙ store-early (register r b) (named s b) (place-of s k b) b n (shades-early (register r b) b n a z) (can-shade-unmarked (named r b) b e t v)))
-    by-stored p f (as-early n a z (shade-lost e)) = nine (q .sound-is) (q .free-is) (handle-lost r l n e) (q .rule ∙ (f ∙ store-nine (register r b) (named s b) (place-of s k b) b (shades-early (register r b) b n a z) (can-shade-lost (named r b) b e)))
-    by-stored p f (as-early n a z (shade-total e t v)) = nine (q .sound-is) (q .free-is) (stored-total r l n a z e t v) (q .rule ∙ (f ∙ store-nine (register r b) (named s b) (place-of s k b) b (shades-early (register r b) b n a z) (can-shade-total (named r b) b e t v)))
+    by-stored p f (as-late n v) =
+        stores-late (q .sound-is) (q .free-is) l m p n v
+        (q .rule ∙ (f ∙ store-late (register r b) (named s b) (place-of s k b) b n (shades-late (register r b) b n v)))
+    by-stored p f (as-early n a z (shaded e t)) =
+        stores-marked (q .sound-is) (q .free-is) l m p n a z e t
+        (q .rule ∙ (f ∙ (store-early (register r b) (named s b) (place-of s k b) b n (shades-early (register r b) b n a z) (can-shade-marked (named r b) b e t) ∙ simp (shade-marked (named r b) b t))))
+    by-stored p f (as-early n a z (unshaded e t v)) =
+        stores-unmarked (q .sound-is) (q .free-is) l m p n a z e t v
+        (q .rule ∙ (f ∙ store-early (register r b) (named s b) (place-of s k b) b n (shades-early (register r b) b n a z) (can-shade-unmarked (named r b) b e t v)))
+    by-stored p f (as-early n a z (shade-lost e)) =
+        refuses-lost (q .sound-is) (q .free-is) (handle-lost r l n e)
+        (q .rule ∙ (f ∙ store-nine (register r b) (named s b) (place-of s k b) b (shades-early (register r b) b n a z) (can-shade-lost (named r b) b e)))
+    by-stored p f (as-early n a z (shade-total e t v)) =
+        refuses-lost (q .sound-is) (q .free-is) (stored-total r l n a z e t v)
+        (q .rule ∙ (f ∙ store-nine (register r b) (named s b) (place-of s k b) b (shades-early (register r b) b n a z) (can-shade-total (named r b) b e t v)))
 
     by-place : names-tuple (register s b) ≡ true → Entry (named s b) b → number s k b < size-of (named s b) b
         → (in-memory (place-of s k b) b ≡ true) ⊎ (in-memory (place-of s k b) b ≡ false) → Asked b (Store r s k)
     by-place n e i (inl p) = by-stored (record { is-pointer = n; entry = e; inside = i; somewhere = p }) (simp (at-entry (register s b) b n e, word-there (named s b) (number s k b) b i p)) (stored (register r b) b)
-    by-place n e i (inr p) = nine (q .sound-is) (q .free-is) (place-past s m n e (number s k b + 1) (omega arith) p) (q .rule ∙ simp (at-entry (register s b) b n e, word-past (named s b) (number s k b) b i p))
+    by-place n e i (inr p) =
+        refuses-lost (q .sound-is) (q .free-is) (place-past s m n e (number s k b + 1) (omega arith) p)
+        (q .rule ∙ simp (at-entry (register s b) b n e, word-past (named s b) (number s k b) b i p))
 
     by-number : names-tuple (register s b) ≡ true → Entry (named s b) b
         → (number s k b < size-of (named s b) b) ⊎ (size-of (named s b) b ≤ number s k b) → Asked b (Store r s k)
     by-number n e (inl i) = by-place n e i (true? (in-memory (place-of s k b) b))
-    by-number n e (inr i) = refuses 3 (omega arith) (omega arith) (omega arith) (q .rule ∙ simp (at-entry (register s b) b n e, word-beyond (named s b) (number s k b) b i))
+    by-number n e (inr i) =
+        refuses 3 (omega arith) (omega arith) (omega arith)
+        (q .rule ∙ simp (at-entry (register s b) b n e, word-beyond (named s b) (number s k b) b i))
 
     by-pointer : Points (register s b) b → Asked b (Store r s k)
     by-pointer (to-data d) = refuses 2 (omega arith) (omega arith) (omega arith) (q .rule ∙ simp (at-data (register s b) b d))
     by-pointer (to-nil f z) = refuses 3 (omega arith) (omega arith) (omega arith) (q .rule ∙ simp (at-nil (register s b) b f z))
-    by-pointer (to-lost n e) = nine (q .sound-is) (q .free-is) (handle-lost s m n e) (q .rule ∙ simp (at-lost (register s b) b n e))
+    by-pointer (to-lost n e) = refuses-lost (q .sound-is) (q .free-is) (handle-lost s m n e) (q .rule ∙ simp (at-lost (register s b) b n e))
     by-pointer (to-tuple n e) = by-number n e (lt? (number s k b) (size-of (named s b) b))
 
 size-view : (r s : ℕ) (b : Box) → Reached (Size r s) b → r < register-count → s < register-count → Asked b (Size r s)
@@ -301,7 +328,7 @@ size-view r s b q l m = go (points (register s b) b)
     go : Points (register s b) b → Asked b (Size r s)
     go (to-data d) = refuses 2 (omega arith) (omega arith) (omega arith) (q .rule ∙ simp (at-data (register s b) b d))
     go (to-nil f z) = gives-nil-size (q .sound-is) (q .free-is) l m f z (q .rule ∙ simp (at-nil (register s b) b f z))
-    go (to-lost n e) = nine (q .sound-is) (q .free-is) (handle-lost s m n e) (q .rule ∙ simp (at-lost (register s b) b n e))
+    go (to-lost n e) = refuses-lost (q .sound-is) (q .free-is) (handle-lost s m n e) (q .rule ∙ simp (at-lost (register s b) b n e))
     go (to-tuple n e) = gives-size (q .sound-is) (q .free-is) l m n e (q .rule ∙ simp (at-entry (register s b) b n e))
 
 tag-view : (r s : ℕ) (b : Box) → Reached (Tag r s) b → r < register-count → s < register-count → Asked b (Tag r s)
@@ -311,12 +338,12 @@ tag-view r s b q l m = go (points (register s b) b)
     by-place : names-tuple (register s b) ≡ true → Entry (named s b) b
         → (in-memory (place (named s b) 0 b) b ≡ true) ⊎ (in-memory (place (named s b) 0 b) b ≡ false) → Asked b (Tag r s)
     by-place n e (inl p) = gives-tag (q .sound-is) (q .free-is) l m n e p (q .rule ∙ simp (at-entry (register s b) b n e, p))
-    by-place n e (inr p) = nine (q .sound-is) (q .free-is) (place-past s m n e 0 (omega arith) p) (q .rule ∙ simp (at-entry (register s b) b n e, p))
+    by-place n e (inr p) = refuses-lost (q .sound-is) (q .free-is) (place-past s m n e 0 (omega arith) p) (q .rule ∙ simp (at-entry (register s b) b n e, p))
 
     go : Points (register s b) b → Asked b (Tag r s)
     go (to-data d) = refuses 2 (omega arith) (omega arith) (omega arith) (q .rule ∙ simp (at-data (register s b) b d))
     go (to-nil f z) = gives-nil-tag (q .sound-is) (q .free-is) l m f z (q .rule ∙ simp (at-nil (register s b) b f z))
-    go (to-lost n e) = nine (q .sound-is) (q .free-is) (handle-lost s m n e) (q .rule ∙ simp (at-lost (register s b) b n e))
+    go (to-lost n e) = refuses-lost (q .sound-is) (q .free-is) (handle-lost s m n e) (q .rule ∙ simp (at-lost (register s b) b n e))
     go (to-tuple n e) = by-place n e (true? (in-memory (place (named s b) 0 b) b))
 
 -- ---- any request
@@ -357,4 +384,4 @@ asked q b = by-sound (true? (sound b))
 
     by-sound : (sound b ≡ true) ⊎ (sound b ≡ false) → Asked b q
     by-sound (inl s) = by-registers s (true? (registers-right q))
-    by-sound (inr s) = unsound {q = q} s (simp s)
+    by-sound (inr s) = refuses-unsound {q = q} s (simp s)

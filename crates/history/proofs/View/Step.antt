@@ -3,17 +3,17 @@
 -- the rule rewritten by the answers; `view` is complete because every test has two answers and a sound box has a phase up to 8.
 -- Assumes nothing.
 use Prim.Native.Nat.{ℕ, zero, suc, _+_, _-_, _≤_, _<_}
-use mathlib.Core.Bool.{Bool, true, false, not, cond, _&&_, _||_}
+use mathlib.Core.Bool.{Bool, true, false, cond, _||_}
 use mathlib.Core.Logic.{_≢_, _⊎_, inl, inr}
 use mathlib.Core.Path.{_≡_, refl, sym, _∙_, subst}
 use native.Mathlib.Omega.{arith}
 use borrow.Author.Tests.{leb-true, lt-ltb, le-ltb, le-leb, lt-leb, eq-eqb, ne-eqb}
-use lib.Dec.{leb, ltb, eqb}
+use lib.Dec.{leb, ltb}
 use Rattle.memory.specs.Limits.{register-count, last-phase}
 use Rattle.memory.specs.State.{with-top, with-free, with-phase, with-live, with-current, with-next, with-src, with-dest, with-tuple, with-size, with-index, with-copy, with-copy-flag, with-begun}
-use Rattle.memory.specs.Box.{Box, Reply, reply, data-word, handle-of, names-tuple, with-state, word-at, put, register, size-of, marked, set-address, set-link, set-mark, right-sizes, sound}
-use Rattle.memory.specs.Place.{can-shade, shade}
-use Rattle.memory.specs.Collector.{going, to-phase, after, end-cycle, note-begun, rest, scan, Found, unmarked, damaged, nothing, look-register, look-from, begin-sweep, end-marking, mark-root, scan-next, mark-next, scan-word, scan-current, mark-scan, mark-add, go-on, keep-in-place, start-move, free-tuple, start-zero, release, sweep-tuple, sweep-scan, leave-tuple, settle-move, finish-move, copy-word, sweep-read, sweep-clear, write-copy, sweep-write, zero-word, sweep-zero, rule-of, step}
+use Rattle.memory.specs.Box.{Box, reply, data-word, handle-of, names-tuple, with-state, word-at, put, register, size-of, marked, set-address, set-link, set-mark, right-sizes, sound}
+use Rattle.memory.specs.Place.{shade}
+use Rattle.memory.specs.Collector.{going, to-phase, after, end-cycle, note-begun, rest, scan, unmarked, damaged, nothing, look-register, look-from, begin-sweep, end-marking, mark-root, scan-next, mark-next, scan-word, scan-current, mark-scan, mark-add, go-on, keep-in-place, start-move, free-tuple, start-zero, release, sweep-tuple, sweep-scan, leave-tuple, settle-move, finish-move, copy-word, sweep-read, sweep-clear, write-copy, sweep-write, zero-word, sweep-zero, rule-of, step}
 use Rattle.history.proofs.View.Fact.{and-right, true-is-not-false, le?, lt?, eq?, true?, Entry, entry?, entry-true, entry-false, Shading, shading, shaded, unshaded, shade-lost, shade-total, can-shade-marked, can-shade-unmarked, can-shade-lost, can-shade-total, shade-marked}
 
 -- ---- the boxes that the steps leave
@@ -318,8 +318,12 @@ mark-scan-view b s p st = by-index (le? (b .state .index) (b .state .size))
     by-address i (inr a) = nine s (scan-past p i a) (st ∙ simp (le-leb (b .state .index) (b .state .size) i, le-ltb (b .state .src + b .state .index) (b .state .m) a))
 
     by-entry : b .state .size < b .state .index → b .state .current ≢ 0 → Entry (b .state .current) b ⊎ (¬ Entry (b .state .current) b) → Step b
-    by-entry i n (inl e) = takes-current s p i n e (st ∙ simp (lt-leb (b .state .index) (b .state .size) i, ne-eqb (b .state .current) 0 n, entry-true (b .state .current) b e))
-    by-entry i n (inr e) = nine s (current-lost p i n e) (st ∙ simp (lt-leb (b .state .index) (b .state .size) i, ne-eqb (b .state .current) 0 n, entry-false (b .state .current) b e))
+    by-entry i n (inl e) =
+        takes-current s p i n e
+        (st ∙ simp (lt-leb (b .state .index) (b .state .size) i, ne-eqb (b .state .current) 0 n, entry-true (b .state .current) b e))
+    by-entry i n (inr e) =
+        nine s (current-lost p i n e)
+        (st ∙ simp (lt-leb (b .state .index) (b .state .size) i, ne-eqb (b .state .current) 0 n, entry-false (b .state .current) b e))
 
     by-current : b .state .size < b .state .index → (b .state .current ≡ 0) ⊎ (b .state .current ≢ 0) → Step b
     by-current i (inl z) = scan-ends s p i z (st ∙ simp (lt-leb (b .state .index) (b .state .size) i, eq-eqb (b .state .current) 0 z))
@@ -357,20 +361,34 @@ sweep-scan-view b s p st = by-entry (entry? (b .state .tuple) b)
   where
     by-top : Entry (b .state .tuple) b → swept-after b ≤ b .state .m → marked (b .state .tuple) b ≡ true → b .state .src ≡ b .state .dest
         → (swept-after b ≡ b .state .top) ⊎ (swept-after b ≢ b .state .top) → (swept-after b < b .state .m) ⊎ (b .state .m ≤ swept-after b) → Step b
-    by-top e a t d (inl q) l = keeps-last s p e a t d q (st ∙ simp (entry-true (b .state .tuple) b e, le-leb (swept-after b) (b .state .m) a, t, eq-eqb (b .state .src) (b .state .dest) d, eq-eqb (swept-after b) (b .state .top) q))
-    by-top e a t d (inr q) (inl l) = keeps s p e a t d q l (st ∙ simp (entry-true (b .state .tuple) b e, le-leb (swept-after b) (b .state .m) a, t, eq-eqb (b .state .src) (b .state .dest) d, ne-eqb (swept-after b) (b .state .top) q, lt-ltb (swept-after b) (b .state .m) l))
-    by-top e a t d (inr q) (inr l) = nine s (keep-past p e a t d q l) (st ∙ simp (entry-true (b .state .tuple) b e, le-leb (swept-after b) (b .state .m) a, t, eq-eqb (b .state .src) (b .state .dest) d, ne-eqb (swept-after b) (b .state .top) q, le-ltb (swept-after b) (b .state .m) l))
+    by-top e a t d (inl q) l =
+        keeps-last s p e a t d q
+        (st ∙ simp (entry-true (b .state .tuple) b e, le-leb (swept-after b) (b .state .m) a, t, eq-eqb (b .state .src) (b .state .dest) d, eq-eqb (swept-after b) (b .state .top) q))
+    by-top e a t d (inr q) (inl l) =
+        keeps s p e a t d q l
+        (st ∙ simp (entry-true (b .state .tuple) b e, le-leb (swept-after b) (b .state .m) a, t, eq-eqb (b .state .src) (b .state .dest) d, ne-eqb (swept-after b) (b .state .top) q, lt-ltb (swept-after b) (b .state .m) l))
+    by-top e a t d (inr q) (inr l) =
+        nine s (keep-past p e a t d q l)
+        (st ∙ simp (entry-true (b .state .tuple) b e, le-leb (swept-after b) (b .state .m) a, t, eq-eqb (b .state .src) (b .state .dest) d, ne-eqb (swept-after b) (b .state .top) q, le-ltb (swept-after b) (b .state .m) l))
 
     by-dest : Entry (b .state .tuple) b → swept-after b ≤ b .state .m → marked (b .state .tuple) b ≡ true
         → (b .state .src ≡ b .state .dest) ⊎ (b .state .src ≢ b .state .dest) → Step b
     by-dest e a t (inl d) = by-top e a t d (eq? (swept-after b) (b .state .top)) (lt? (swept-after b) (b .state .m))
-    by-dest e a t (inr d) = starts-move s p e a t d (st ∙ simp (entry-true (b .state .tuple) b e, le-leb (swept-after b) (b .state .m) a, t, ne-eqb (b .state .src) (b .state .dest) d))
+    by-dest e a t (inr d) =
+        starts-move s p e a t d
+        (st ∙ simp (entry-true (b .state .tuple) b e, le-leb (swept-after b) (b .state .m) a, t, ne-eqb (b .state .src) (b .state .dest) d))
 
     by-live : Entry (b .state .tuple) b → swept-after b ≤ b .state .m → marked (b .state .tuple) b ≡ false
         → (b .state .src + swept-size b < b .state .live) ⊎ (b .state .live ≤ b .state .src + swept-size b) → (swept-after b < b .state .m) ⊎ (b .state .m ≤ swept-after b) → Step b
-    by-live e a t (inl v) (inl l) = releases s p e a t v l (st ∙ simp (entry-true (b .state .tuple) b e, le-leb (swept-after b) (b .state .m) a, t, lt-ltb (b .state .src + swept-size b) (b .state .live) v, lt-ltb (swept-after b) (b .state .m) l))
-    by-live e a t (inl v) (inr l) = nine s (release-past p e a t v l) (st ∙ simp (entry-true (b .state .tuple) b e, le-leb (swept-after b) (b .state .m) a, t, lt-ltb (b .state .src + swept-size b) (b .state .live) v, le-ltb (swept-after b) (b .state .m) l))
-    by-live e a t (inr v) l = starts-zero s p e a t v (st ∙ simp (entry-true (b .state .tuple) b e, le-leb (swept-after b) (b .state .m) a, t, le-ltb (b .state .src + swept-size b) (b .state .live) v, first-zero (b .state .src) (b .state .live)))
+    by-live e a t (inl v) (inl l) =
+        releases s p e a t v l
+        (st ∙ simp (entry-true (b .state .tuple) b e, le-leb (swept-after b) (b .state .m) a, t, lt-ltb (b .state .src + swept-size b) (b .state .live) v, lt-ltb (swept-after b) (b .state .m) l))
+    by-live e a t (inl v) (inr l) =
+        nine s (release-past p e a t v l)
+        (st ∙ simp (entry-true (b .state .tuple) b e, le-leb (swept-after b) (b .state .m) a, t, lt-ltb (b .state .src + swept-size b) (b .state .live) v, le-ltb (swept-after b) (b .state .m) l))
+    by-live e a t (inr v) l =
+        starts-zero s p e a t v
+        (st ∙ simp (entry-true (b .state .tuple) b e, le-leb (swept-after b) (b .state .m) a, t, le-ltb (b .state .src + swept-size b) (b .state .live) v, first-zero (b .state .src) (b .state .live)))
 
     by-mark : Entry (b .state .tuple) b → swept-after b ≤ b .state .m → (marked (b .state .tuple) b ≡ true) ⊎ (marked (b .state .tuple) b ≡ false) → Step b
     by-mark e a (inl t) = by-dest e a t (eq? (b .state .src) (b .state .dest))
@@ -392,8 +410,12 @@ sweep-read-view b s p st = by-index (le? (b .state .index) (b .state .size))
   where
     by-live : b .state .index ≤ b .state .size → b .state .src + b .state .index < b .state .m
         → (b .state .src + b .state .index < b .state .live) ⊎ (b .state .live ≤ b .state .src + b .state .index) → Step b
-    by-live i a (inl v) = copies-low s p i a v (st ∙ simp (le-leb (b .state .index) (b .state .size) i, lt-ltb (b .state .src + b .state .index) (b .state .m) a, lt-ltb (b .state .src + b .state .index) (b .state .live) v))
-    by-live i a (inr v) = copies-high s p i a v (st ∙ simp (le-leb (b .state .index) (b .state .size) i, lt-ltb (b .state .src + b .state .index) (b .state .m) a, le-ltb (b .state .src + b .state .index) (b .state .live) v))
+    by-live i a (inl v) =
+        copies-low s p i a v
+        (st ∙ simp (le-leb (b .state .index) (b .state .size) i, lt-ltb (b .state .src + b .state .index) (b .state .m) a, lt-ltb (b .state .src + b .state .index) (b .state .live) v))
+    by-live i a (inr v) =
+        copies-high s p i a v
+        (st ∙ simp (le-leb (b .state .index) (b .state .size) i, lt-ltb (b .state .src + b .state .index) (b .state .m) a, le-ltb (b .state .src + b .state .index) (b .state .live) v))
 
     by-address : b .state .index ≤ b .state .size → (b .state .src + b .state .index < b .state .m) ⊎ (b .state .m ≤ b .state .src + b .state .index) → Step b
     by-address i (inl a) = by-live i a (lt? (b .state .src + b .state .index) (b .state .live))
@@ -401,17 +423,27 @@ sweep-read-view b s p st = by-index (le? (b .state .index) (b .state .size))
 
     by-top : b .state .size < b .state .index → Entry (b .state .tuple) b → moved-end b ≤ b .state .m → after b ≤ b .state .m
         → (after b ≡ b .state .top) ⊎ (after b ≢ b .state .top) → (after b < b .state .m) ⊎ (b .state .m ≤ after b) → Step b
-    by-top i e d a (inl q) l = ends-move s p i e d a q (st ∙ simp (lt-leb (b .state .index) (b .state .size) i, entry-true (b .state .tuple) b e, le-leb (moved-end b) (b .state .m) d, le-leb (after b) (b .state .m) a, eq-eqb (after b) (b .state .top) q))
-    by-top i e d a (inr q) (inl l) = moves-on s p i e d q l (st ∙ simp (lt-leb (b .state .index) (b .state .size) i, entry-true (b .state .tuple) b e, le-leb (moved-end b) (b .state .m) d, le-leb (after b) (b .state .m) a, ne-eqb (after b) (b .state .top) q, lt-ltb (after b) (b .state .m) l))
-    by-top i e d a (inr q) (inr l) = nine s (finish-past p i e d a q l) (st ∙ simp (lt-leb (b .state .index) (b .state .size) i, entry-true (b .state .tuple) b e, le-leb (moved-end b) (b .state .m) d, le-leb (after b) (b .state .m) a, ne-eqb (after b) (b .state .top) q, le-ltb (after b) (b .state .m) l))
+    by-top i e d a (inl q) l =
+        ends-move s p i e d a q
+        (st ∙ simp (lt-leb (b .state .index) (b .state .size) i, entry-true (b .state .tuple) b e, le-leb (moved-end b) (b .state .m) d, le-leb (after b) (b .state .m) a, eq-eqb (after b) (b .state .top) q))
+    by-top i e d a (inr q) (inl l) =
+        moves-on s p i e d q l
+        (st ∙ simp (lt-leb (b .state .index) (b .state .size) i, entry-true (b .state .tuple) b e, le-leb (moved-end b) (b .state .m) d, le-leb (after b) (b .state .m) a, ne-eqb (after b) (b .state .top) q, lt-ltb (after b) (b .state .m) l))
+    by-top i e d a (inr q) (inr l) =
+        nine s (finish-past p i e d a q l)
+        (st ∙ simp (lt-leb (b .state .index) (b .state .size) i, entry-true (b .state .tuple) b e, le-leb (moved-end b) (b .state .m) d, le-leb (after b) (b .state .m) a, ne-eqb (after b) (b .state .top) q, le-ltb (after b) (b .state .m) l))
 
     by-after : b .state .size < b .state .index → Entry (b .state .tuple) b → moved-end b ≤ b .state .m → (after b ≤ b .state .m) ⊎ (b .state .m < after b) → Step b
     by-after i e d (inl a) = by-top i e d a (eq? (after b) (b .state .top)) (lt? (after b) (b .state .m))
-    by-after i e d (inr a) = nine s (finish-after p i e d a) (st ∙ simp (lt-leb (b .state .index) (b .state .size) i, entry-true (b .state .tuple) b e, le-leb (moved-end b) (b .state .m) d, lt-leb (after b) (b .state .m) a))
+    by-after i e d (inr a) =
+        nine s (finish-after p i e d a)
+        (st ∙ simp (lt-leb (b .state .index) (b .state .size) i, entry-true (b .state .tuple) b e, le-leb (moved-end b) (b .state .m) d, lt-leb (after b) (b .state .m) a))
 
     by-end : b .state .size < b .state .index → Entry (b .state .tuple) b → (moved-end b ≤ b .state .m) ⊎ (b .state .m < moved-end b) → Step b
     by-end i e (inl d) = by-after i e d (le? (after b) (b .state .m))
-    by-end i e (inr d) = nine s (finish-total p i e d) (st ∙ simp (lt-leb (b .state .index) (b .state .size) i, entry-true (b .state .tuple) b e, lt-leb (moved-end b) (b .state .m) d))
+    by-end i e (inr d) =
+        nine s (finish-total p i e d)
+        (st ∙ simp (lt-leb (b .state .index) (b .state .size) i, entry-true (b .state .tuple) b e, lt-leb (moved-end b) (b .state .m) d))
 
     by-entry : b .state .size < b .state .index → Entry (b .state .tuple) b ⊎ (¬ Entry (b .state .tuple) b) → Step b
     by-entry i (inl e) = by-end i e (le? (moved-end b) (b .state .m))
@@ -450,9 +482,15 @@ sweep-zero-view b s p st = by-index (le? (b .state .index) (b .state .size))
     by-address i (inr a) = nine s (zero-past p i a) (st ∙ simp (le-leb (b .state .index) (b .state .size) i, le-ltb (b .state .src + b .state .index) (b .state .m) a))
 
     by-top : b .state .size < b .state .index → after b ≤ b .state .m → (after b ≡ b .state .top) ⊎ (after b ≢ b .state .top) → (after b < b .state .m) ⊎ (b .state .m ≤ after b) → Step b
-    by-top i a (inl q) l = zero-ends s p i a q (st ∙ simp (lt-leb (b .state .index) (b .state .size) i, le-leb (after b) (b .state .m) a, eq-eqb (after b) (b .state .top) q))
-    by-top i a (inr q) (inl l) = zero-on s p i q l (st ∙ simp (lt-leb (b .state .index) (b .state .size) i, le-leb (after b) (b .state .m) a, ne-eqb (after b) (b .state .top) q, lt-ltb (after b) (b .state .m) l))
-    by-top i a (inr q) (inr l) = nine s (zero-past-on p i a q l) (st ∙ simp (lt-leb (b .state .index) (b .state .size) i, le-leb (after b) (b .state .m) a, ne-eqb (after b) (b .state .top) q, le-ltb (after b) (b .state .m) l))
+    by-top i a (inl q) l =
+        zero-ends s p i a q
+        (st ∙ simp (lt-leb (b .state .index) (b .state .size) i, le-leb (after b) (b .state .m) a, eq-eqb (after b) (b .state .top) q))
+    by-top i a (inr q) (inl l) =
+        zero-on s p i q l
+        (st ∙ simp (lt-leb (b .state .index) (b .state .size) i, le-leb (after b) (b .state .m) a, ne-eqb (after b) (b .state .top) q, lt-ltb (after b) (b .state .m) l))
+    by-top i a (inr q) (inr l) =
+        nine s (zero-past-on p i a q l)
+        (st ∙ simp (lt-leb (b .state .index) (b .state .size) i, le-leb (after b) (b .state .m) a, ne-eqb (after b) (b .state .top) q, le-ltb (after b) (b .state .m) l))
 
     by-after : b .state .size < b .state .index → (after b ≤ b .state .m) ⊎ (b .state .m < after b) → Step b
     by-after i (inl a) = by-top i a (eq? (after b) (b .state .top)) (lt? (after b) (b .state .m))
