@@ -5,5 +5,7 @@ pub mod Chain
 pub mod Laid
 pub mod Frame
 pub mod Resting
+pub mod View
 pub mod Relation
 pub mod RelationKept
+pub mod Reach
