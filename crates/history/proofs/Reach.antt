@@ -130,6 +130,7 @@ all-inside? xs f (suc n) = go (inside? xs (f n)) (all-inside? xs f n)
         more : Dec (k ≡ n) → Inside xs (f k)
         more (yes e) = subst (λ (x : ℕ). Inside xs (f x)) (sym e) t
         more (no d) = g k (omega arith)
+
     go : Inside xs (f n) ⊎ Outside xs (f n) → ((k : ℕ) → k < n → Inside xs (f k)) ⊎ Leak xs f n → ((k : ℕ) → k < suc n → Inside xs (f k)) ⊎ Leak xs f (suc n)
     go (inr o) r = inr (record { at = n; below = omega arith; out = o })
     go (inl t) (inl g) = inl (upto t g)
@@ -149,6 +150,7 @@ module _ (m : History) where
       both : ((k : ℕ) → k < size-at y m → Inside xs (word-of y k m)) → ((i : ℕ) → Member i ys → (k : ℕ) → k < size-at i m → Inside xs (word-of i k m)) → (i : ℕ) → (i ≡ y) ⊎ Member i ys → (k : ℕ) → k < size-at i m → Inside xs (word-of i k m)
       both f g i (inl e) = subst (λ (x : ℕ). (k : ℕ) → k < size-at x m → Inside xs (word-of x k m)) (sym e) f
       both f g i (inr x) = g i x
+
       go : ((k : ℕ) → k < size-at y m → Inside xs (word-of y k m)) ⊎ Leak xs (λ k. word-of y k m) (size-at y m) → ((i : ℕ) → Member i ys → (k : ℕ) → k < size-at i m → Inside xs (word-of i k m)) ⊎ Hole xs ys → ((i : ℕ) → (i ≡ y) ⊎ Member i ys → (k : ℕ) → k < size-at i m → Inside xs (word-of i k m)) ⊎ Hole xs (y ∷ ys)
       go (inr w) r = inr (record { tuple = y; member = inl refl; leak = w })
       go (inl f) (inl g) = inl (both f g)
@@ -181,6 +183,7 @@ module _ (m : History) where
       added : (w : More xs) → (i : ℕ) → (i ≡ w .one) ⊎ Member i xs → Reachable m i
       added w i (inl e) = subst (λ (x : ℕ). Reachable m x) (sym e) (w .reach)
       added w i (inr x) = s i x
+
       go : ((n : ℕ) → Reachable m n → Member n xs) ⊎ More xs → (More xs → (ys : List ℕ) × Lists (Reachable m) ys) → (ys : List ℕ) × Lists (Reachable m) ys
       go (inl c) k = (xs, record { distinct = d; sound = s; complete = c })
       go (inr w) k = k w
