@@ -8,5 +8,6 @@ pub mod Resting
 pub mod View
 pub mod Relation
 pub mod RelationKept
+pub mod Numbers
 pub mod Reach
 pub mod Tracked
