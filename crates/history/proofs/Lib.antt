@@ -11,3 +11,4 @@ pub mod RelationKept
 pub mod Numbers
 pub mod Reach
 pub mod Tracked
+pub mod Census

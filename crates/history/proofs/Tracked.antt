@@ -92,9 +92,23 @@ module _ (b : Box) (p : Plan) (m : History) (given : List ℕ) (number : ℕ →
 -- ---- the cycle's end
 
 -- the members of a chain are listed along the links
-chain-listed : (b : Box) (head : ℕ) (hs : List ℕ) (x : ℕ) → Chain (b .links) head hs → ((h : ℕ) → Member h hs → 1 ≤ h) → Member x hs → Listed b x head
+pub chain-listed : (b : Box) (head : ℕ) (hs : List ℕ) (x : ℕ) → Chain (b .links) head hs → ((h : ℕ) → Member h hs → 1 ≤ h) → Member x hs → Listed b x head
 chain-listed b head (h ∷ hs) x c f (inl e) = subst (λ (y : ℕ). Listed b x y) (e ∙ sym (c .0)) (here (let l : 1 ≤ h = f h (inl refl) in omega arith))
 chain-listed b head (h ∷ hs) x c f (inr m) = subst (λ (y : ℕ). Listed b x y) (sym (c .0)) (later h (let l : 1 ≤ h = f h (inl refl) in omega arith) (chain-listed b (link h b) hs x (c .1) (λ y z. f y (inr z)) m))
+
+-- so are the handles of the free list
+pub free-listed : (b : Box) (g : Ghosts) → Inv b g → (x : ℕ) → Member x (g .free) → Listed b x (b .state .free)
+free-listed b g v x m = chain-listed b (b .state .free) (g .free) x (v .handles .free-chain) (λ y z. v .handles .entries y (among-member y (g .plan .done) (g .plan .mid) (g .plan .ahead) (g .free) (among-free z)) .0) m
+
+-- and what is listed is a member
+listed-chain : (b : Box) (head : ℕ) (hs : List ℕ) (x : ℕ) → Listed b x head → Chain (b .links) head hs → Member x hs
+listed-chain b head [] x (here n) c = absurd (n c)
+listed-chain b head (h ∷ hs) x (here n) c = inl (c .0)
+listed-chain b head [] x (later y n l) c = absurd (n c)
+listed-chain b head (h ∷ hs) x (later y n l) c = inr (listed-chain b (link h b) hs x (subst (λ (z : ℕ). Listed b x (link z b)) (c .0) l) (c .1))
+
+pub listed-free : (b : Box) (g : Ghosts) → Inv b g → (x : ℕ) → Listed b x (b .state .free) → Member x (g .free)
+listed-free b g v x l = listed-chain b (b .state .free) (g .free) x l (v .handles .free-chain)
 
 -- a tuple made before the cycle started that was unreachable then is not spared
 not-spared : (started : History) (i j : ℕ) → i ≤ made started → ¬ Reachable started i → Spared started j → j ≢ i
@@ -130,7 +144,4 @@ gone-at-rest b g m given number started v s e u f i l r n =
     go (among-done x) = replaced (settled x)
     go (among-mid x) = replaced (moving x)
     go (among-ahead x) = replaced (unswept x (omega arith))
-    go (among-free x) = in-free-list (chain-listed b (b .state .free) (g .free) h (v .handles .free-chain) (λ y z. v .handles .entries y (free-all y z) .0) x)
-      where
-        free-all : (y : ℕ) → Member y (g .free) → Member y (all (g .plan) (g .free))
-        free-all y z = among-member y (g .plan .done) (g .plan .mid) (g .plan .ahead) (g .free) (among-free z)
+    go (among-free x) = in-free-list (free-listed b g v h x)
