@@ -96,7 +96,7 @@ module _ (b : Box) (g : Ghosts) (m : History) (given : List ℕ) (number : ℕ �
   holds h x = s .kept-hold h (unswept x (omega arith))
 
   -- the numbers of the tuples in the directory
-  pub alive : List ℕ
+  unfoldable pub alive : List ℕ
   alive = numbers number (g .plan .ahead)
 
   alive-distinct : Distinct alive
@@ -166,7 +166,7 @@ module _ (b : Box) (g : Ghosts) (m : History) (given : List ℕ) (number : ℕ �
           omega arith
 
   -- the tuples made and no longer in the directory
-  pub dead : List ℕ
+  unfoldable pub dead : List ℕ
   dead = minus (upto (made m)) alive
 
   alive-within : Within alive (upto (made m))
@@ -215,7 +215,7 @@ module _ (b : Box) (g : Ghosts) (m : History) (given : List ℕ) (number : ℕ �
       subst (λ (y : ℕ). Member y (numbers number (g .plan .ahead))) (k .numbered) (numbers-in number (g .plan .ahead) (k .handle) (kept-ahead (k .handle) (k .kept)))
 
   -- a list of reachable tuples takes no more than the directory does, in words and in handles
-  fits-if-room : (is : List ℕ) → Lists (Reachable m) is → (n : ℕ) → b .state .free ≢ 0 → b .state .top + n + 1 ≤ b .state .m → Fits (b .state .m) (b .state .h) is n m
+  pub fits-if-room : (is : List ℕ) → Lists (Reachable m) is → (n : ℕ) → b .state .free ≢ 0 → b .state .top + n + 1 ≤ b .state .m → Fits (b .state .m) (b .state .h) is n m
   unfolding alive
   fits-if-room is l n f t =
       let w : Within is (numbers number (g .plan .ahead)) = λ i x. reachable-alive i (l .sound i x) in
@@ -228,7 +228,7 @@ module _ (b : Box) (g : Ghosts) (m : History) (given : List ℕ) (number : ℕ �
       record { words-fit = omega arith; handles-fit = omega arith }
 
   -- where the directory has the reachable tuples only, no room means that they don't fit
-  no-fit : (is : List ℕ) → Lists (Reachable m) is → ((i : ℕ) → Member i alive → Reachable m i) → (n : ℕ) → (b .state .free ≡ 0) ⊎ (b .state .m < b .state .top + n + 1) → ¬ Fits (b .state .m) (b .state .h) is n m
+  pub no-fit : (is : List ℕ) → Lists (Reachable m) is → ((i : ℕ) → Member i alive → Reachable m i) → (n : ℕ) → (b .state .free ≡ 0) ⊎ (b .state .m < b .state .top + n + 1) → ¬ Fits (b .state .m) (b .state .h) is n m
   unfolding alive
   no-fit is l a n r f = go r
     where

@@ -12,3 +12,4 @@ pub mod Numbers
 pub mod Reach
 pub mod Tracked
 pub mod Census
+pub mod Answers
