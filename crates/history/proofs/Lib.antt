@@ -13,3 +13,4 @@ pub mod Reach
 pub mod Tracked
 pub mod Census
 pub mod Answers
+pub mod TrackedStep
