@@ -1,3 +1,4 @@
 pub mod Swept
 pub mod Tuple
 pub mod Keep
+pub mod Start

@@ -9,14 +9,16 @@ use native.Mathlib.Omega.{arith}
 use lib.ListN.{length-set}
 use Rattle.memory.specs.State.{with-phase, with-src, with-dest, with-tuple, with-size}
 use Rattle.memory.specs.Box.{Box, handle-of, with-state, word-at, address, size-of, marked, set-mark}
+use Rattle.memory.specs.Collector.{at-rest}
 use Rattle.history.specs.Agreement.{Member, Distinct}
 use Rattle.history.proofs.Inv.{Plan, Ghosts, Inv, Control, Laid, rooms, marked-rooms, Kept, settled, moving, unswept, surviving, Shape, Handles, Layout, Zero, Marks, Stage}
 use Rattle.history.proofs.Words.{word-early}
-use Rattle.history.proofs.Lists.{member-left, member-right, member-cases, member-differs, Parts, parts, perm-ahead-done}
-use Rattle.history.proofs.Laid.{laid-le, laid-frame, laid-snoc, laid-to, marked-rooms-marked, marked-rooms-frame}
+use Rattle.history.proofs.Lists.{member-left, member-right, member-cases, member-differs, Parts, parts, perm-ahead-done, perm-done-ahead}
+use Rattle.history.proofs.Laid.{laid-le, laid-frame, laid-snoc, laid-to, laid-none, marked-rooms-marked, marked-rooms-frame}
 use Rattle.history.proofs.Frame.{SameShape, shape-same, handles-moved, Quiet, quiet-contents, quiet-calm, Next}
+use Rattle.history.proofs.Resting.{resting-plan}
 use Rattle.history.proofs.Sweep.Tuple.{swept-end, ahead-other, at-src, control-at-src, behind-laid, live-if-marked, unmarked-other, still-unmarked, settled-unmarked}
-use Rattle.history.proofs.Sweep.Swept.{no-scans, sweep-plan, sweep-ghosts, unlisted, scan-ghosts, Scanned, scanned, next-at, rooms-none, live-swept, swept-marks, kept-swept, plain-quiet, next-tuple}
+use Rattle.history.proofs.Sweep.Swept.{no-scans, sweep-plan, sweep-ghosts, unlisted, scan-ghosts, Scanned, scanned, next-at, Ended, ended-at, rooms-none, live-swept, swept-marks, kept-swept, plain-quiet, next-tuple}
 
 -- the box with another tuple behind
 abbrev pub kept-box : Box → Box
@@ -64,13 +66,17 @@ module _ (b : Box) (ds hs free : List ℕ) (v : Inv b (scan-ghosts b ds hs free)
   keep-from h (surviving (inl e) m) = settled (member-right h ds (b .state .tuple ∷ []) (inl e))
   keep-from h (surviving (inr x) m) = surviving x (unmarked-other b ds hs free v h (ahead-other b ds hs free v h x) ∙ m)
 
-  keep-to : (h : ℕ) → Kept (kept-box b) (kept-plan b ds hs) h → Kept b (scan-ghosts b ds hs free .plan) h
-  keep-to h (settled x) = cases (member-cases h ds (b .state .tuple ∷ []) x)
+  -- what is settled afterwards was kept
+  settled-before : (h : ℕ) → Member h (ds ++ (b .state .tuple ∷ [])) → Kept b (scan-ghosts b ds hs free .plan) h
+  settled-before h x = cases (member-cases h ds (b .state .tuple ∷ []) x)
     where
       cases : Member h ds ⊎ Member h (b .state .tuple ∷ []) → Kept b (scan-ghosts b ds hs free .plan) h
       cases (inl y) = settled y
       cases (inr (inl e)) = surviving (inl e) (subst (λ (x : ℕ). marked x b ≡ true) (sym e) mk)
       cases (inr (inr y)) = absurd y
+
+  keep-to : (h : ℕ) → Kept (kept-box b) (kept-plan b ds hs) h → Kept b (scan-ghosts b ds hs free .plan) h
+  keep-to h (settled x) = settled-before h x
   keep-to h (moving x) = absurd x
   keep-to h (unswept x l) = absurd (omega arith)
   keep-to h (surviving x m) = surviving (inr x) (sym (unmarked-other b ds hs free v h (ahead-other b ds hs free v h x)) ∙ m)
@@ -103,3 +109,63 @@ pub keeps : (b : Box) (g : Ghosts) → Inv b g → b .state .phase ≡ 4 → mar
 keeps b g v ph mk at-dest more =
     let s : Scanned b g = scanned b g v ph in
     next-at b g (scan-ghosts b (s .settled-tuples) (s .behind-it) (s .free-handles)) (kept-box b) (s .are) (keeps-at b (s .settled-tuples) (s .behind-it) (s .free-handles) (s .inv) ph mk at-dest more)
+
+-- ---- kept in place as the last tuple
+
+-- the box that is left to the end of the cycle
+abbrev pub kept-last-box : Box → Box
+kept-last-box b = set-mark (b .state .tuple) false (with-state (with-size (size-of (b .state .tuple) b) (b .state)) b)
+
+module _ (b : Box) (ds free : List ℕ) (v : Inv b (scan-ghosts b ds [] free)) (ph : b .state .phase ≡ 4) (mk : marked (b .state .tuple) b ≡ true) (at-dest : b .state .src ≡ b .state .dest) where
+  last-shape : SameShape b (kept-last-box b)
+  last-shape = record { m-same = refl; h-same = refl; words-same = refl; flags-same = refl; addresses-same = refl; sizes-same = refl; links-same = refl; marks-same = length-set (b .marks) (b .state .tuple) false; deeps-same = refl; registers-same = refl; register-flags-same = refl; held-same = λ e. (e, refl) }
+
+  last-laid : Laid (kept-last-box b) 0 (ds ++ (b .state .tuple ∷ [])) (b .state .top)
+  last-laid =
+      laid-frame b (kept-last-box b) 0 (ds ++ (b .state .tuple ∷ [])) (b .state .top) (λ h x. refl) (λ h x. refl) (λ h x. refl)
+      (laid-to b 0 (ds ++ (b .state .tuple ∷ [])) (swept-end b) (b .state .top) (behind-laid b ds [] free v) (keep-settled-laid b ds [] free v ph mk at-dest))
+
+  last-from : (h : ℕ) → Kept b (scan-ghosts b ds [] free .plan) h → Kept (at-rest (kept-last-box b)) (resting-plan (ds ++ (b .state .tuple ∷ []))) h
+  unfolding at-rest
+  last-from h (settled x) = unswept (member-left h ds (b .state .tuple ∷ []) x) (omega arith)
+  last-from h (moving x) = absurd x
+  last-from h (unswept x l) = absurd (omega arith)
+  last-from h (surviving x m) = unswept (member-right h ds (b .state .tuple ∷ []) x) (omega arith)
+
+  last-to : (h : ℕ) → Kept (at-rest (kept-last-box b)) (resting-plan (ds ++ (b .state .tuple ∷ []))) h → Kept b (scan-ghosts b ds [] free .plan) h
+  last-to h (settled x) = absurd x
+  last-to h (moving x) = absurd x
+  last-to h (unswept x l) = settled-before b ds [] free v ph mk at-dest h x
+  last-to h (surviving x m) = settled-before b ds [] free v ph mk at-dest h x
+
+  last-quiet : Quiet b (scan-ghosts b ds [] free .plan) (at-rest (kept-last-box b)) (resting-plan (ds ++ (b .state .tuple ∷ [])))
+  unfolding at-rest
+  last-quiet = plain-quiet b (scan-ghosts b ds [] free .plan) (at-rest (kept-last-box b)) (resting-plan (ds ++ (b .state .tuple ∷ []))) (λ h i. word-early h i b (omega arith)) (λ h i. word-early h i (at-rest (kept-last-box b)) (omega arith)) (λ h. refl) (λ h. refl) (λ a. refl) (λ h. refl) (λ r. refl) last-to last-from
+
+  keeps-last-at : Ended b (scan-ghosts b ds [] free) (kept-last-box b)
+  keeps-last-at =
+      record {
+        left = ds ++ (b .state .tuple ∷ []);
+        free-handles = free;
+        finish = record {
+          shape = shape-same b (kept-last-box b) last-shape (v .shape);
+          handles = handles-moved b (kept-last-box b) (scan-ghosts b ds [] free .plan) (resting-plan (ds ++ (b .state .tuple ∷ []))) free free (perm-done-ahead ds (b .state .tuple ∷ []) free) refl (v .handles .free-chain) (v .handles);
+          laid = last-laid;
+          top-fits = v .layout .top-fits;
+          contents = quiet-contents b (scan-ghosts b ds [] free .plan) (at-rest (kept-last-box b)) (resting-plan (ds ++ (b .state .tuple ∷ []))) last-quiet (v .contents);
+          above-top = v .zero-words .above-top;
+          unmarked = settled-unmarked b ds [] free v;
+          free-unmarked = λ h x. still-unmarked b ds [] free v h (v .marks .free-unmarked h x);
+          no-next = v .marks .nexts-chain;
+          no-current = v .marks .currents-chain;
+        };
+        calm = quiet-calm b (scan-ghosts b ds [] free .plan) (at-rest (kept-last-box b)) (resting-plan (ds ++ (b .state .tuple ∷ []))) last-quiet;
+      }
+
+pub keeps-last : (b : Box) (g : Ghosts) → Inv b g → b .state .phase ≡ 4 → marked (b .state .tuple) b ≡ true → b .state .src ≡ b .state .dest → swept-end b ≡ b .state .top → Ended b g (kept-last-box b)
+keeps-last b g v ph mk at-dest last =
+    let s : Scanned b g = scanned b g v ph in
+    let e : s .behind-it ≡ [] = laid-none b (swept-end b) (s .behind-it) (b .state .top) (behind-laid b (s .settled-tuples) (s .behind-it) (s .free-handles) (s .inv)) last in
+    ended-at b g (scan-ghosts b (s .settled-tuples) [] (s .free-handles)) (kept-last-box b)
+    (s .are ∙ ap (λ (hs : List ℕ). scan-ghosts b (s .settled-tuples) hs (s .free-handles)) e)
+    (keeps-last-at b (s .settled-tuples) (s .free-handles) (subst (λ (hs : List ℕ). Inv b (scan-ghosts b (s .settled-tuples) hs (s .free-handles))) e (s .inv)) ph mk at-dest)
