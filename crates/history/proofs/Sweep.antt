@@ -2,3 +2,4 @@ pub mod Swept
 pub mod Tuple
 pub mod Keep
 pub mod Start
+pub mod Release
