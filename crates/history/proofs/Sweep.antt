@@ -3,3 +3,4 @@ pub mod Tuple
 pub mod Keep
 pub mod Start
 pub mod Release
+pub mod Zeroing
