@@ -4,3 +4,5 @@ pub mod Keep
 pub mod Start
 pub mod Release
 pub mod Zeroing
+pub mod Bounds
+pub mod Built

@@ -1,24 +1,24 @@
 -- A marked tuple that is in place stays there: the transitions of phase 4 that unmark it and settle it, with another tuple behind it
 -- and as the last one. The settled gain it at their end, and every group of clauses is read off the invariant before. Assumes nothing.
-use Prim.Native.Nat.{ℕ, _+_, _≤_, _<_}
-use mathlib.Core.Bool.{Bool, true, false}
+use Prim.Native.Nat.{ℕ, _+_}
+use mathlib.Core.Bool.{true, false}
 use mathlib.Core.List.{List, [], _∷_, _++_}
 use mathlib.Core.Logic.{_≢_, _⊎_, inl, inr}
 use mathlib.Core.Path.{_≡_, refl, sym, _∙_, ap, subst}
 use native.Mathlib.Omega.{arith}
 use lib.ListN.{length-set}
 use Rattle.memory.specs.State.{with-phase, with-src, with-dest, with-tuple, with-size}
-use Rattle.memory.specs.Box.{Box, handle-of, with-state, word-at, address, size-of, marked, set-mark}
+use Rattle.memory.specs.Box.{Box, handle-of, with-state, word-at, size-of, marked, set-mark}
 use Rattle.memory.specs.Collector.{at-rest}
-use Rattle.history.specs.Agreement.{Member, Distinct}
-use Rattle.history.proofs.Inv.{Plan, Ghosts, Inv, Control, Laid, rooms, marked-rooms, Kept, settled, moving, unswept, surviving, Shape, Handles, Layout, Zero, Marks, Stage}
+use Rattle.history.specs.Agreement.{Member}
+use Rattle.history.proofs.Inv.{Plan, Ghosts, Inv, Laid, marked-rooms, Kept, settled, moving, unswept, surviving, Layout, Zero, Marks, Stage}
 use Rattle.history.proofs.Words.{word-early}
-use Rattle.history.proofs.Lists.{member-left, member-right, member-cases, member-differs, Parts, parts, perm-ahead-done, perm-done-ahead}
-use Rattle.history.proofs.Laid.{laid-le, laid-frame, laid-snoc, laid-to, laid-none, marked-rooms-marked, marked-rooms-frame}
+use Rattle.history.proofs.Lists.{member-left, member-right, member-cases, perm-ahead-done, perm-done-ahead}
+use Rattle.history.proofs.Laid.{laid-frame, laid-snoc, laid-to, laid-none, marked-rooms-frame}
 use Rattle.history.proofs.Frame.{SameShape, shape-same, handles-moved, Quiet, quiet-contents, quiet-calm, Next}
 use Rattle.history.proofs.Resting.{resting-plan}
 use Rattle.history.proofs.Sweep.Tuple.{swept-end, ahead-other, at-src, control-at-src, behind-laid, live-if-marked, unmarked-other, still-unmarked, settled-unmarked}
-use Rattle.history.proofs.Sweep.Swept.{no-scans, sweep-plan, sweep-ghosts, unlisted, scan-ghosts, Scanned, scanned, next-at, Ended, ended-at, rooms-none, live-swept, swept-marks, kept-swept, plain-quiet, next-tuple}
+use Rattle.history.proofs.Sweep.Swept.{no-scans, sweep-plan, sweep-ghosts, unlisted, scan-ghosts, Scanned, scanned, next-at, Ended, ended-at, rooms-none, swept-marks, plain-quiet, next-tuple}
 
 -- the box with another tuple behind
 abbrev pub kept-box : Box → Box
@@ -30,7 +30,7 @@ kept-box b =
     (with-tuple (handle-of (word-at (swept-end b) b)) (with-size (size-of (b .state .tuple) b) (with-phase 4 (b .state))))))
     b)
 
--- the plans before and after
+-- the plan after it
 abbrev kept-plan : Box → List ℕ → List ℕ → Plan
 kept-plan b ds hs = sweep-plan (swept-end b) (swept-end b) (ds ++ (b .state .tuple ∷ [])) hs
 

@@ -3,17 +3,17 @@
 -- nothing.
 use Prim.Native.Nat.{ℕ, _+_, _-_, _≤_, _<_}
 use mathlib.Core.Bool.{Bool, true, false, cond, false≢true}
-use mathlib.Core.List.{List, [], _∷_, _++_}
-use mathlib.Core.Logic.{_≢_, _⊎_, inl, inr}
+use mathlib.Core.List.{List, _∷_}
+use mathlib.Core.Logic.{_≢_, inl, inr}
 use mathlib.Core.Path.{_≡_, refl, sym, _∙_, subst}
-use borrow.Author.Tests.{ltb-true, ltb-false}
+use borrow.Author.Tests.{ltb-false}
 use native.Mathlib.Omega.{arith}
 use lib.Dec.{ltb}
 use lib.ListN.{set, length-set}
 use Rattle.memory.specs.State.{with-free, with-phase, with-src, with-tuple, with-size, with-index}
-use Rattle.memory.specs.Box.{Box, handle-of, with-state, word-at, register, address, size-of, marked, deep, set-link}
+use Rattle.memory.specs.Box.{Box, handle-of, with-state, word-at, size-of, marked, set-link}
 use Rattle.history.specs.Agreement.{Member}
-use Rattle.history.proofs.Inv.{Plan, Ghosts, Inv, Chain, Laid, rooms, marked-rooms, Kept, settled, moving, unswept, surviving, Shape, Handles, Layout, Contents, Zero, Marks, Stage}
+use Rattle.history.proofs.Inv.{Plan, Ghosts, Inv, Chain, marked-rooms, Kept, settled, moving, unswept, surviving, Layout, Marks, Stage}
 use Rattle.history.proofs.Words.{word-early, word-late}
 use Rattle.history.proofs.Lists.{perm-ahead-free}
 use Rattle.history.proofs.Chain.{chain-push}

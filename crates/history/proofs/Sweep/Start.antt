@@ -1,16 +1,16 @@
 -- A marked tuple that is not in place begins to be moved: the transition from phase 4 to 5. The tuple leaves those ahead and is the
 -- one being moved; with index 0 in phase 5 all its words are still at src. Every group is read off the invariant before. Assumes nothing.
-use Prim.Native.Nat.{ℕ, _+_, _≤_, _<_}
+use Prim.Native.Nat.{ℕ, _+_}
 use mathlib.Core.Bool.{true, false}
-use mathlib.Core.List.{List, [], _∷_, _++_}
-use mathlib.Core.Logic.{_≢_, _⊎_, inl, inr}
+use mathlib.Core.List.{List, [], _∷_}
+use mathlib.Core.Logic.{_≢_, inl, inr}
 use mathlib.Core.Path.{_≡_, refl, sym, _∙_, ap, subst}
 use native.Mathlib.Omega.{arith}
 use lib.ListN.{length-set}
 use Rattle.memory.specs.State.{with-phase, with-size, with-index}
 use Rattle.memory.specs.Box.{Box, Word, with-state, word-at, address, size-of, marked, set-mark}
 use Rattle.history.specs.Agreement.{Member}
-use Rattle.history.proofs.Inv.{Plan, Ghosts, Inv, word, Control, Laid, rooms, marked-rooms, Kept, settled, moving, unswept, surviving, Layout, Zero, Marks, Move, Stage}
+use Rattle.history.proofs.Inv.{Plan, Ghosts, Inv, word, Control, marked-rooms, Kept, settled, moving, unswept, surviving, Layout, Marks, Move, Stage}
 use Rattle.history.proofs.Words.{word-early, word-unread}
 use Rattle.history.proofs.Lists.{perm-ahead-mid}
 use Rattle.history.proofs.Laid.{laid-frame, rooms-one, marked-rooms-frame}

@@ -1,15 +1,15 @@
 -- The invariant in the phases that settle, release and zero tuples, 4 and 8: its ghosts in full form, read off the stage, and what
 -- the transitions of those phases share. Each is read off the clauses of the invariant. Assumes nothing.
-use Prim.Native.Nat.{ℕ, _+_, _≤_, _<_}
-use mathlib.Core.Bool.{Bool, true, false}
-use mathlib.Core.List.{List, [], _∷_, _++_}
+use Prim.Native.Nat.{ℕ, _+_, _≤_}
+use mathlib.Core.Bool.{true, false}
+use mathlib.Core.List.{List, [], _∷_}
 use mathlib.Core.Logic.{_≢_, _⊎_, inl, inr}
 use mathlib.Core.Path.{_≡_, refl, sym, _∙_, ap, subst}
 use native.Mathlib.Omega.{arith}
-use Rattle.memory.specs.Box.{Box, Word, handle-of, word-at, register, address, size-of, marked, deep}
+use Rattle.memory.specs.Box.{Box, handle-of, word-at, register, address, size-of, marked, deep}
 use Rattle.memory.specs.Collector.{at-rest}
 use Rattle.history.specs.Agreement.{Member}
-use Rattle.history.proofs.Inv.{Plan, Scans, Ghosts, Inv, word, Laid, rooms, marked-rooms, Kept, settled, moving, unswept, surviving, Marks, Stage, Unswept, Unlisted, Move}
+use Rattle.history.proofs.Inv.{Plan, Scans, Ghosts, Inv, word, Laid, rooms, marked-rooms, Kept, settled, moving, unswept, surviving, Marks, Stage, Unlisted}
 use Rattle.history.proofs.Laid.{Front, laid-front}
 use Rattle.history.proofs.Frame.{Quiet, Calm, Next}
 use Rattle.history.proofs.Resting.{Finished, resting-plan, resting, finished}

@@ -1,7 +1,7 @@
 -- The tuple under the sweep, in phase 4: it has an entry, lies at src and ends at or below top, and is none of the others. Then what
 -- its mark says of live, and the marks once its own is taken away. Each is read off the invariant. Assumes nothing.
 use Prim.Native.Nat.{ℕ, _+_, _≤_, _<_}
-use mathlib.Core.Bool.{Bool, true, false}
+use mathlib.Core.Bool.{true, false}
 use mathlib.Core.List.{List, [], _∷_, _++_}
 use mathlib.Core.Logic.{_≢_, _⊎_, inl, inr}
 use mathlib.Core.Path.{_≡_, refl, sym, _∙_, subst}
@@ -9,10 +9,10 @@ use native.Mathlib.Decide.{ℕ-discrete}
 use native.Mathlib.Omega.{arith}
 use lib.ListN.{length, getD, set}
 use lib.Seq.{getD-set-same, getD-set-other}
-use Rattle.memory.specs.Box.{Box, handle-of, word-at, address, size-of, marked}
-use Rattle.history.specs.Agreement.{Member, Distinct}
+use Rattle.memory.specs.Box.{Box, word-at, address, size-of, marked}
+use Rattle.history.specs.Agreement.{Member}
 use Rattle.history.proofs.Inv.{Inv, Control, Laid, marked-rooms}
-use Rattle.history.proofs.Lists.{member-left, member-right, member-cases, member-differs, Parts, parts}
+use Rattle.history.proofs.Lists.{member-right, member-cases, member-differs, Parts, parts}
 use Rattle.history.proofs.Laid.{laid-le, laid-rooms, marked-rooms-marked, marked-rooms-unmarked, marked-rooms-le}
 use Rattle.history.proofs.Sweep.Swept.{scan-ghosts, rooms-none, live-swept}
 
