@@ -14,3 +14,5 @@ pub mod Tracked
 pub mod Census
 pub mod Answers
 pub mod TrackedStep
+pub mod Sweep
+pub mod Moving
