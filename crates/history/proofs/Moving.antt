@@ -1,0 +1,2 @@
+-- The moves of phases 5, 6 and 7.
+pub mod Facts
