@@ -1,2 +1,4 @@
 -- The moves of phases 5, 6 and 7.
 pub mod Facts
+pub mod Within
+pub mod Copies

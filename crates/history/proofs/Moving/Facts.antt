@@ -3,13 +3,14 @@
 -- live, and that every handle stands once. Last, that no rule of these phases finds a number out of bounds. Assumes nothing.
 use Prim.Native.Nat.{ℕ, _+_, _≤_, _<_}
 use mathlib.Core.List.{List, [], _∷_}
-use mathlib.Core.Logic.{_≢_, _⊎_, inl, inr}
+use mathlib.Core.Logic.{_≢_, inl, inr}
 use mathlib.Core.Path.{_≡_, refl, sym, ap, _∙_, subst}
+use native.Mathlib.Decide.{decLt, ℕ-discrete}
 use native.Mathlib.Omega.{arith}
 use Rattle.memory.specs.Box.{Box, address, size-of}
 use Rattle.history.specs.Agreement.{Member}
 use Rattle.history.proofs.Inv.{Ghosts, Inv, Stage, Move, Kept, rooms, marked-rooms, at-rest, finding, scanning, adding, sweeping, reading, clearing, writing, zeroing, settled, moving, unswept, surviving}
-use Rattle.history.proofs.Lists.{Parts, parts, Among, among-mid, among-member, member-differs, member-equal}
+use Rattle.history.proofs.Lists.{Parts, parts, among-mid, among-member, member-equal}
 use Rattle.history.proofs.Laid.{laid-le, laid-bounds, rooms-one}
 
 -- ---- what a phase says
@@ -128,6 +129,20 @@ lies b g i m h (settled x) = below (done-other b g i m h x) (done-below b g i m 
 lies b g i m h (moving x) = moved (mid-only b g m h x)
 lies b g i m h (unswept x l) = above (ahead-other b g i m h x) (ahead-above b g i m h x)
 lies b g i m h (surviving x t) = above (ahead-other b g i m h x) (ahead-above b g i m h x)
+
+-- ---- where index i stands to the index of the move
+pub data Turn (i n : ℕ) : Type 0 where
+  earlier : i < n → Turn i n
+  now : i ≡ n → Turn i n
+  later : n < i → Turn i n
+
+pub turn : (i n : ℕ) → Turn i n
+turn i n = go (decLt i n) (ℕ-discrete i n)
+  where
+    go : Dec (i < n) → Dec (i ≡ n) → Turn i n
+    go (yes l) d = earlier l
+    go (no f) (yes e) = now e
+    go (no f) (no e) = later (omega arith)
 
 -- ---- no rule of these phases finds a number out of bounds
 
