@@ -2,3 +2,6 @@
 pub mod Facts
 pub mod Within
 pub mod Copies
+pub mod Put
+pub mod Clearing
+pub mod Writing

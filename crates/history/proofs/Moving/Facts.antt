@@ -16,55 +16,55 @@ use Rattle.history.proofs.Laid.{laid-le, laid-bounds, rooms-one}
 -- ---- what a phase says
 
 -- phase 5
-pub record Reads (b : Box) (g : Ghosts) : Type 0 where
+pub record AtRead (b : Box) (g : Ghosts) : Type 0 where
   pub move : Move b g
   pub index-most : b .state .index ≤ b .state .size + 1
   pub zeroed-is : g .zeroed ≡ b .state .src + b .state .index
 
-pub reads : (b : Box) (g : Ghosts) → b .state .phase ≡ 5 → Stage b g → Reads b g
-reads b g p (at-rest q u n m) = absurd (omega arith)
-reads b g p (finding q u n m) = absurd (omega arith)
-reads b g p (scanning q u s n m) = absurd (omega arith)
-reads b g p (adding q u s n m o) = absurd (omega arith)
-reads b g p (sweeping q u n l s z hs t) = absurd (omega arith)
-reads b g p (reading q m i z) = record { move = m; index-most = i; zeroed-is = z }
-reads b g p (clearing q m i z) = absurd (omega arith)
-reads b g p (writing q m i z) = absurd (omega arith)
-reads b g p (zeroing q u n l s d i z) = absurd (omega arith)
+pub at-read : (b : Box) (g : Ghosts) → b .state .phase ≡ 5 → Stage b g → AtRead b g
+at-read b g p (at-rest q u n m) = absurd (omega arith)
+at-read b g p (finding q u n m) = absurd (omega arith)
+at-read b g p (scanning q u s n m) = absurd (omega arith)
+at-read b g p (adding q u s n m o) = absurd (omega arith)
+at-read b g p (sweeping q u n l s z hs t) = absurd (omega arith)
+at-read b g p (reading q m i z) = record { move = m; index-most = i; zeroed-is = z }
+at-read b g p (clearing q m i z) = absurd (omega arith)
+at-read b g p (writing q m i z) = absurd (omega arith)
+at-read b g p (zeroing q u n l s d i z) = absurd (omega arith)
 
 -- phase 6
-pub record Clears (b : Box) (g : Ghosts) : Type 0 where
+pub record AtClear (b : Box) (g : Ghosts) : Type 0 where
   pub move : Move b g
   pub index-most : b .state .index ≤ b .state .size
   pub zeroed-is : g .zeroed ≡ b .state .src + b .state .index
 
-pub clears : (b : Box) (g : Ghosts) → b .state .phase ≡ 6 → Stage b g → Clears b g
-clears b g p (at-rest q u n m) = absurd (omega arith)
-clears b g p (finding q u n m) = absurd (omega arith)
-clears b g p (scanning q u s n m) = absurd (omega arith)
-clears b g p (adding q u s n m o) = absurd (omega arith)
-clears b g p (sweeping q u n l s z hs t) = absurd (omega arith)
-clears b g p (reading q m i z) = absurd (omega arith)
-clears b g p (clearing q m i z) = record { move = m; index-most = i; zeroed-is = z }
-clears b g p (writing q m i z) = absurd (omega arith)
-clears b g p (zeroing q u n l s d i z) = absurd (omega arith)
+pub at-clear : (b : Box) (g : Ghosts) → b .state .phase ≡ 6 → Stage b g → AtClear b g
+at-clear b g p (at-rest q u n m) = absurd (omega arith)
+at-clear b g p (finding q u n m) = absurd (omega arith)
+at-clear b g p (scanning q u s n m) = absurd (omega arith)
+at-clear b g p (adding q u s n m o) = absurd (omega arith)
+at-clear b g p (sweeping q u n l s z hs t) = absurd (omega arith)
+at-clear b g p (reading q m i z) = absurd (omega arith)
+at-clear b g p (clearing q m i z) = record { move = m; index-most = i; zeroed-is = z }
+at-clear b g p (writing q m i z) = absurd (omega arith)
+at-clear b g p (zeroing q u n l s d i z) = absurd (omega arith)
 
 -- phase 7
-pub record Writes (b : Box) (g : Ghosts) : Type 0 where
+pub record AtWrite (b : Box) (g : Ghosts) : Type 0 where
   pub move : Move b g
   pub index-most : b .state .index ≤ b .state .size
   pub zeroed-is : g .zeroed ≡ b .state .src + b .state .index + 1
 
-pub writes : (b : Box) (g : Ghosts) → b .state .phase ≡ 7 → Stage b g → Writes b g
-writes b g p (at-rest q u n m) = absurd (omega arith)
-writes b g p (finding q u n m) = absurd (omega arith)
-writes b g p (scanning q u s n m) = absurd (omega arith)
-writes b g p (adding q u s n m o) = absurd (omega arith)
-writes b g p (sweeping q u n l s z hs t) = absurd (omega arith)
-writes b g p (reading q m i z) = absurd (omega arith)
-writes b g p (clearing q m i z) = absurd (omega arith)
-writes b g p (writing q m i z) = record { move = m; index-most = i; zeroed-is = z }
-writes b g p (zeroing q u n l s d i z) = absurd (omega arith)
+pub at-write : (b : Box) (g : Ghosts) → b .state .phase ≡ 7 → Stage b g → AtWrite b g
+at-write b g p (at-rest q u n m) = absurd (omega arith)
+at-write b g p (finding q u n m) = absurd (omega arith)
+at-write b g p (scanning q u s n m) = absurd (omega arith)
+at-write b g p (adding q u s n m o) = absurd (omega arith)
+at-write b g p (sweeping q u n l s z hs t) = absurd (omega arith)
+at-write b g p (reading q m i z) = absurd (omega arith)
+at-write b g p (clearing q m i z) = absurd (omega arith)
+at-write b g p (writing q m i z) = record { move = m; index-most = i; zeroed-is = z }
+at-write b g p (zeroing q u n l s d i z) = absurd (omega arith)
 
 -- ---- the tuple on its way
 
@@ -147,7 +147,7 @@ turn i n = go (decLt i n) (ℕ-discrete i n)
 -- ---- no rule of these phases finds a number out of bounds
 
 pub read-fits : (b : Box) (g : Ghosts) → Inv b g → b .state .phase ≡ 5 → b .state .index ≤ b .state .size → b .state .src + b .state .index < b .state .m
-read-fits b g i p l = let f : Bounds b g = bounds b g i (reads b g p (i .stage) .move) in omega arith
+read-fits b g i p l = let f : Bounds b g = bounds b g i (at-read b g p (i .stage) .move) in omega arith
 
 pub record Finishes (b : Box) : Type 0 where
   pub least : 1 ≤ b .state .tuple
@@ -158,17 +158,17 @@ pub record Finishes (b : Box) : Type 0 where
 
 pub finish-fits : (b : Box) (g : Ghosts) → Inv b g → b .state .phase ≡ 5 → b .state .size < b .state .index → Finishes b
 finish-fits b g i p l =
-    let f : Bounds b g = bounds b g i (reads b g p (i .stage) .move) in
+    let f : Bounds b g = bounds b g i (at-read b g p (i .stage) .move) in
     record { least = f .least; most = f .most; dest-fits = omega arith; after-fits = omega arith; after-inside = λ n. omega arith }
 
 pub clear-fits : (b : Box) (g : Ghosts) → Inv b g → b .state .phase ≡ 6 → b .state .src + b .state .index < b .state .m
 clear-fits b g i p =
-    let s : Clears b g = clears b g p (i .stage) in
+    let s : AtClear b g = at-clear b g p (i .stage) in
     let f : Bounds b g = bounds b g i (s .move) in
     omega arith
 
 pub write-fits : (b : Box) (g : Ghosts) → Inv b g → b .state .phase ≡ 7 → b .state .dest + b .state .index < b .state .m
 write-fits b g i p =
-    let s : Writes b g = writes b g p (i .stage) in
+    let s : AtWrite b g = at-write b g p (i .stage) in
     let f : Bounds b g = bounds b g i (s .move) in
     omega arith
