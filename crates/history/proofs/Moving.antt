@@ -1,7 +1,8 @@
 -- The moves of phases 5, 6 and 7.
 pub mod Facts
 pub mod Within
-pub mod Copies
+pub mod Copying
 pub mod Put
 pub mod Clearing
 pub mod Writing
+pub mod Settling
