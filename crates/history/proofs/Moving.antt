@@ -6,3 +6,5 @@ pub mod Put
 pub mod Clearing
 pub mod Writing
 pub mod Settling
+pub mod Leaving
+pub mod Ending

@@ -3,18 +3,18 @@
 -- dest or behind. One word more from live on is known to be zero. Assumes nothing.
 use Prim.Native.Nat.{ℕ, _+_, _≤_, _<_}
 use mathlib.Core.Logic.{_≢_}
-use mathlib.Core.Path.{_≡_, refl, sym, _∙_, ap, subst}
+use mathlib.Core.Path.{_≡_, refl, sym, _∙_, subst}
 use lib.ListN.{length, length-set}
 use native.Mathlib.Decide.{ℕ-discrete}
 use native.Mathlib.Omega.{arith}
-use Rattle.memory.specs.Box.{Box, Word, data-word, word-at, put, address}
+use Rattle.memory.specs.Box.{Box, data-word, word-at, put, address}
 use Rattle.memory.specs.Collector.{to-phase}
-use Rattle.history.proofs.Inv.{Ghosts, Inv, Move, Stage, Zero, word, writing}
+use Rattle.history.proofs.Inv.{Ghosts, Inv, Move, Zero, word, writing}
 use Rattle.history.proofs.Words.{word-moved, word-copied, word-unmoved}
 use Rattle.history.proofs.Frame.{Next}
 use Rattle.history.proofs.Moving.Facts.{AtClear, at-clear, Bounds, bounds, Turn, earlier, now, later, turn}
 use Rattle.history.proofs.Moving.Put.{put-same, put-other}
-use Rattle.history.proofs.Moving.Within.{Within, zeroed-to, within}
+use Rattle.history.proofs.Moving.Within.{Within, within}
 
 -- the box after it
 abbrev pub cleared : Box → Box

@@ -5,7 +5,7 @@ use Prim.Native.Nat.{ℕ, _+_, _≤_, _<_}
 use mathlib.Core.Path.{_≡_, refl, sym, ap, _∙_}
 use borrow.Author.Tests.{lt-ltb, le-ltb}
 use native.Mathlib.Omega.{arith}
-use Rattle.memory.specs.Box.{Box, word-at, copy-register}
+use Rattle.memory.specs.Box.{Box, word-at}
 use Rattle.memory.specs.Collector.{copy-word}
 use Rattle.history.proofs.Inv.{Ghosts, Inv, Move, Stage, Zero, word, clearing, writing}
 use Rattle.history.proofs.Words.{word-moved, word-copied, word-unmoved, word-unread}
@@ -24,10 +24,6 @@ low-phase b l = simp (lt-ltb (b .state .src + b .state .index) (b .state .live) 
 high-phase : (b : Box) → b .state .live ≤ b .state .src + b .state .index → copied b .state .phase ≡ 6
 unfolding copy-word
 high-phase b l = simp (le-ltb (b .state .src + b .state .index) (b .state .live) l)
-
-copy-same : (b : Box) → copy-register (copied b) ≡ word-at (b .state .src + b .state .index) b
-unfolding copy-word
-copy-same b = refl
 
 copies-words : (b : Box) (g : Ghosts) → Move b g → b .state .phase ≡ 5 → 6 ≤ copied b .state .phase → copied b .state .phase ≤ 7 → (i : ℕ) → word (b .state .tuple) i (copied b) ≡ word (b .state .tuple) i b
 unfolding copy-word

@@ -2,7 +2,7 @@
 -- before in the other columns and in memory: the settled tuples lie end to end with this one at their end, those ahead lie as they
 -- did, and, before phase 5, every kept tuple's words are as they were, since the moved tuple's were all at dest. Assumes nothing.
 use Prim.Native.Nat.{ℕ, _+_, _≤_, _<_}
-use mathlib.Core.Bool.{Bool, true, false}
+use mathlib.Core.Bool.{Bool, false}
 use mathlib.Core.List.{List, [], _∷_, _++_}
 use mathlib.Core.Logic.{_≢_, _⊎_, inl, inr}
 use mathlib.Core.Path.{_≡_, refl, sym, ap, _∙_, subst}
@@ -11,12 +11,12 @@ use lib.ListN.{length, getD, set, length-set}
 use lib.Seq.{getD-set-same, getD-set-other}
 use Rattle.memory.specs.Box.{Box, Word, word-at, register, address, size-of, marked, deep}
 use Rattle.history.specs.Agreement.{Member}
-use Rattle.history.proofs.Inv.{Ghosts, Inv, Control, Laid, Move, Kept, Shape, word}
+use Rattle.history.proofs.Inv.{Ghosts, Inv, all, Control, Laid, Move, Kept, settled, moving, Shape, word}
 use Rattle.history.proofs.Words.{word-early, word-moved, word-other}
-use Rattle.history.proofs.Lists.{member-cases}
+use Rattle.history.proofs.Lists.{Perm, perm-mid-done, member-cases, member-right}
 use Rattle.history.proofs.Laid.{laid-frame, laid-snoc, laid-to}
-use Rattle.history.proofs.Frame.{SameShape, shape-same}
-use Rattle.history.proofs.Moving.Facts.{Bounds, bounds, Lies, moved, below, above, lies, mid-member, mid-only, done-other, ahead-other}
+use Rattle.history.proofs.Frame.{shape-same}
+use Rattle.history.proofs.Moving.Facts.{Bounds, bounds, Lies, moved, below, above, lies, mid-only, done-other, ahead-other}
 
 -- the facts of the transition: every word is written
 pub record Written (b : Box) (g : Ghosts) : Type 0 where
@@ -107,19 +107,32 @@ settles-words b c g v t w p h k i l = place (lies b g v (t .move) h k)
     place (below n u) = elsewhere n
     place (above n u) = elsewhere n
 
--- ---- marks
+-- ---- the handles
+
+pub settled-perm : (b : Box) (g : Ghosts) → Move b g → Perm (all (g .plan) (g .free)) (settled-now b g ++ ([] ++ (g .plan .ahead ++ g .free)))
+settled-perm b g m = subst (λ (ms : List ℕ). Perm (g .plan .done ++ (ms ++ (g .plan .ahead ++ g .free))) (settled-now b g ++ ([] ++ (g .plan .ahead ++ g .free)))) (sym (m .mid-is)) (perm-mid-done (b .state .tuple) (g .plan .done) (g .plan .ahead) (g .free))
+
+pub now-settled : (b : Box) (g : Ghosts) → Move b g → (h : ℕ) → Member h (g .plan .mid) → Member h (settled-now b g)
+now-settled b g m h x = member-right h (g .plan .done) (b .state .tuple ∷ []) (inl (mid-only b g m h x))
 
 -- a settled tuple was settled, or is the one moved
-pub data Was (b : Box) (g : Ghosts) (h : ℕ) : Type 0 where
+data Was (b : Box) (g : Ghosts) (h : ℕ) : Type 0 where
   was-done : Member h (g .plan .done) → Was b g h
   was-mid : Member h (g .plan .mid) → Was b g h
 
-pub was : (b : Box) (g : Ghosts) → Move b g → (h : ℕ) → Member h (settled-now b g) → Was b g h
+was : (b : Box) (g : Ghosts) → Move b g → (h : ℕ) → Member h (settled-now b g) → Was b g h
 was b g m h x = go (member-cases h (g .plan .done) (b .state .tuple ∷ []) x)
   where
     go : Member h (g .plan .done) ⊎ Member h (b .state .tuple ∷ []) → Was b g h
     go (inl y) = was-done y
     go (inr y) = was-mid (subst (λ (hs : List ℕ). Member h hs) (sym (m .mid-is)) y)
+
+pub was-kept : (b : Box) (g : Ghosts) → Move b g → (h : ℕ) → Member h (settled-now b g) → Kept b (g .plan) h
+was-kept b g m h x = go (was b g m h x)
+  where
+    go : Was b g h → Kept b (g .plan) h
+    go (was-done y) = settled y
+    go (was-mid y) = moving y
 
 pub settles-unmarked : (b c : Box) (g : Ghosts) → Inv b g → Move b g → Settles b c → (h : ℕ) → Member h (settled-now b g) → marked h c ≡ false
 settles-unmarked b c g v m w h x = mark-same b c w h ∙ go (was b g m h x)
