@@ -1,3 +1,4 @@
 pub mod Stages
 pub mod Alike
 pub mod Shade
+pub mod Find

@@ -3,13 +3,14 @@
 -- nothing.
 use Prim.Native.Nat.{ℕ, _+_, _≤_, _<_}
 use mathlib.Core.Bool.{true, false}
-use mathlib.Core.List.{List}
-use mathlib.Core.Path.{_≡_, sym, _∙_, ap, ap₂, subst}
+use mathlib.Core.List.{List, []}
+use mathlib.Core.Path.{_≡_, refl, sym, _∙_, ap, ap₂, subst}
 use native.Mathlib.Omega.{arith}
 use lib.ListN.{length, getD}
-use Rattle.memory.specs.Box.{Box, Word, handle-of, names-tuple, word-at, register, address, size-of, marked, deep}
+use Rattle.memory.specs.declared.state.State.{State}
+use Rattle.memory.specs.Box.{Box, Word, handle-of, names-tuple, with-state, word-at, register, address, size-of, marked, deep}
 use Rattle.history.specs.Agreement.{Member, Distinct}
-use Rattle.history.proofs.Inv.{Plan, Scans, Ghosts, Inv, listed, word, rooms, marked-rooms, Chain, Kept, settled, moving, unswept, surviving, Shape, Handles, Layout, Zero, Marks, Stage}
+use Rattle.history.proofs.Inv.{Plan, Scans, Ghosts, Inv, listed, word, rooms, marked-rooms, Chain, Kept, settled, moving, unswept, surviving, Shape, Handles, Layout, Zero, Marks, Unswept, Stage}
 use Rattle.history.proofs.Words.{word-early}
 use Rattle.history.proofs.Lists.{member?}
 use Rattle.history.proofs.Marking.Stages.{unswept-of}
@@ -32,6 +33,10 @@ pub record Alike (b c : Box) : Type 0 where
   pub free-is : c .state .free ≡ b .state .free
   pub held-is : c .state .held ≡ b .state .held
   pub hold-register-is : c .state .«hold_register» ≡ b .state .«hold_register»
+
+-- only the state differs
+pub alike-state : (b : Box) (s : State) → s .m ≡ b .state .m → s .h ≡ b .state .h → s .registers ≡ b .state .registers → s .flags ≡ b .state .flags → s .top ≡ b .state .top → s .free ≡ b .state .free → s .held ≡ b .state .held → s .«hold_register» ≡ b .state .«hold_register» → Alike b (with-state s b)
+alike-state b s m h r f t q d e = record { words-are = refl; flags-are = refl; addresses-are = refl; sizes-are = refl; deeps-are = refl; links-length = refl; marks-length = refl; m-is = m; h-is = h; registers-are = r; register-flags-are = f; top-is = t; free-is = q; held-is = d; hold-register-is = e }
 
 -- ---- what is read off them
 
@@ -143,6 +148,13 @@ marks-relisted b c p free s s′ a lb lc r i =
 
 abbrev pub with-scans : Scans → Ghosts → Ghosts
 with-scans s g = record { plan = g .plan; free = g .free; scans = s; zeroed = g .zeroed }
+
+-- no tuple waits for a scan
+abbrev pub none-wait : Scans
+none-wait = record { nexts = []; currents = []; gray = [] }
+
+pub unswept-scans : (g : Ghosts) (s : Scans) → Unswept g → Unswept (with-scans s g)
+unswept-scans g s u = record { no-done = u .no-done; no-mid = u .no-mid; low-zero = u .low-zero; base-zero = u .base-zero; zeroed-zero = u .zeroed-zero }
 
 -- a transition of the marking: what is left to show is the marks and the stage
 pub inv-alike : (b : Box) (g : Ghosts) (c : Box) (s : Scans) → Inv b g → Alike b c → b .state .phase ≤ 3 → c .state .phase ≤ 3

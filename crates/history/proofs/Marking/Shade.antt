@@ -3,7 +3,7 @@
 -- a caller that goes on to change the phase or a word. Assumes nothing.
 use Prim.Native.Nat.{ℕ, _+_, _≤_, _<_}
 use mathlib.Core.Bool.{Bool, true, false, cond, false≢true}
-use mathlib.Core.List.{List, [], _∷_, _++_}
+use mathlib.Core.List.{List, _∷_, _++_}
 use mathlib.Core.Logic.{_≢_, _⊎_, inl, inr}
 use mathlib.Core.Path.{_≡_, refl, sym, _∙_, subst}
 use native.Mathlib.Omega.{arith}
@@ -13,12 +13,12 @@ use lib.Seq.{getD-set-same, getD-set-other}
 use Rattle.memory.specs.Box.{Box, Word, handle-of, names-tuple, size-of, marked, deep}
 use Rattle.memory.specs.Place.{list-next, mark-live, shade}
 use Rattle.history.specs.Agreement.{Member, Distinct}
-use Rattle.history.proofs.Inv.{Plan, Scans, Ghosts, Inv, listed, word, marked-rooms, Chain, Kept, unswept, Shape, Handles, Layout, Contents, Zero, Marks, Unswept, Scan, Stage, at-rest, finding, scanning, adding, sweeping, reading, clearing, writing, zeroing}
+use Rattle.history.proofs.Inv.{Plan, Scans, Ghosts, Inv, listed, word, marked-rooms, Chain, Kept, unswept, Shape, Handles, Layout, Contents, Zero, Marks, Scan, Stage, at-rest, finding, scanning, adding, sweeping, reading, clearing, writing, zeroing}
 use Rattle.history.proofs.Lists.{member-left, member-right, perm-shift, perm-sym, perm-distinct, perm-member, Parts, parts, among-member, among-ahead}
 use Rattle.history.proofs.Chain.{chain-push, chain-set-other}
 use Rattle.history.proofs.Laid.{rooms-frame, marked-rooms-mark}
 use Rattle.history.proofs.Frame.{Quiet}
-use Rattle.history.proofs.Marking.Alike.{Alike, address-alike, size-alike, deep-alike, word-alike, shape-alike, handles-alike, layout-alike, zero-alike, quiet-alike, Black, black-alike, with-scans, inv-alike}
+use Rattle.history.proofs.Marking.Alike.{Alike, address-alike, size-alike, deep-alike, word-alike, shape-alike, handles-alike, layout-alike, zero-alike, quiet-alike, Black, black-alike, with-scans, none-wait, unswept-scans, inv-alike}
 
 -- ---- what shading does, by the three cases of its rule
 
@@ -230,9 +230,6 @@ shaded-stage {h} {b} {c} {s′} g sh l v w st = go st
     same : (x i : ℕ) → word x i c ≡ word x i b
     same x i = word-alike b c a (omega arith) (omega (arith, k .phase-is)) x i
 
-    begun : Unswept g → Unswept (with-scans s′ g)
-    begun u = record { no-done = u .no-done; no-mid = u .no-mid; low-zero = u .low-zero; base-zero = u .base-zero; zeroed-zero = u .zeroed-zero }
-
     seen : (x : ℕ) → ((k : ℕ) → k + 1 < b .state .index → names-tuple (word x (k + 1) b) ≡ true → marked (handle-of (word x (k + 1) b)) b ≡ true)
         → (k : ℕ) → k + 1 < c .state .index → names-tuple (word x (k + 1) c) ≡ true → marked (handle-of (word x (k + 1) c)) c ≡ true
     seen x f j u n = subst (λ (z : Word). marked (handle-of z) c ≡ true) (sym (same x (j + 1))) (shaded-keeps sh l (handle-of (word x (j + 1) b)) (f j (subst (λ (z : ℕ). j + 1 < z) (k .index-is) u) (subst (λ (z : Word). names-tuple z ≡ true) (same x (j + 1)) n)))
@@ -247,9 +244,9 @@ shaded-stage {h} {b} {c} {s′} g sh l v w st = go st
 
     go : Stage b g → Stage c (with-scans s′ g)
     go (at-rest p u i m) = absurd (omega arith)
-    go (finding p u i m) = finding (k .phase-is ∙ p) (begun u) (shaded-currents sh ∙ i) (shaded-gray sh ∙ m)
-    go (scanning p u x i f) = scanning (k .phase-is ∙ p) (begun u) x (scan-steady b g c s′ x a k (shaded-gray sh) i) (seen x f)
-    go (adding p u x i m f) = adding (k .phase-is ∙ p) (begun u) x (scan-steady b g c s′ x a k (shaded-gray sh) i) (subst (λ (y : ℕ). Member y (g .plan .ahead)) (sym (k .tuple-is)) m) (seen-yet x f)
+    go (finding p u i m) = finding (k .phase-is ∙ p) (unswept-scans g s′ u) (shaded-currents sh ∙ i) (shaded-gray sh ∙ m)
+    go (scanning p u x i f) = scanning (k .phase-is ∙ p) (unswept-scans g s′ u) x (scan-steady b g c s′ x a k (shaded-gray sh) i) (seen x f)
+    go (adding p u x i m f) = adding (k .phase-is ∙ p) (unswept-scans g s′ u) x (scan-steady b g c s′ x a k (shaded-gray sh) i) (subst (λ (y : ℕ). Member y (g .plan .ahead)) (sym (k .tuple-is)) m) (seen-yet x f)
     go (sweeping p u m i x z hs f) = absurd (omega arith)
     go (reading p m i z) = absurd (omega arith)
     go (clearing p m i z) = absurd (omega arith)
@@ -257,10 +254,6 @@ shaded-stage {h} {b} {c} {s′} g sh l v w st = go st
     go (zeroing p u m i x d y z) = absurd (omega arith)
 
 -- ---- the laws of `shade h b`
-
--- no tuple waits for a scan
-abbrev none-wait : Scans
-none-wait = record { nexts = []; currents = []; gray = [] }
 
 pub shade-alike : (h : ℕ) (b : Box) → Alike b (shade h b)
 shade-alike h b = shaded-alike (shaded h b none-wait)
