@@ -2,3 +2,4 @@ pub mod Stages
 pub mod Alike
 pub mod Shade
 pub mod Find
+pub mod Scan

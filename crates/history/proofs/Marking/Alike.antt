@@ -178,3 +178,10 @@ pub relists : (b : Box) (g : Ghosts) (c : Box) (s : Scans) → Inv b g → Alike
 relists b g c s i a lb lc r st =
     next-alike b g c s a lb lc
     (inv-alike b g c s i a lb lc (rw (r .links-are) (i .handles .free-chain)) (marks-relisted b c (g .plan) (g .free) (g .scans) s a lb lc r (i .marks)) st)
+
+-- a transition behind one that leaves the kept tuples as they were
+pub next-after : (b : Box) (g : Ghosts) (d : Box) (k : Ghosts) (c : Box) → Quiet b (g .plan) d (k .plan) → Next d k c → Next b g c
+next-after b g d k c q n = record { ghosts = n .ghosts; inv = n .inv; calm = record { kept-to = to; roots-same = λ r. n .calm .roots-same r ∙ q .roots-same r; sizes-same = λ h x. n .calm .sizes-same h x ∙ q .sizes-same h (to h x); words-same = λ h x i l. n .calm .words-same h x i (subst (λ (z : ℕ). i ≤ z) (sym (q .sizes-same h (to h x))) l) ∙ q .words-same h (to h x) i l } }
+  where
+    to : (h : ℕ) → Kept c (n .ghosts .plan) h → Kept b (g .plan) h
+    to h x = q .kept-to h (n .calm .kept-to h x)
