@@ -3,3 +3,4 @@ pub mod Alike
 pub mod Shade
 pub mod Find
 pub mod Scan
+pub mod Begin
