@@ -4,3 +4,4 @@ pub mod Shade
 pub mod Find
 pub mod Scan
 pub mod Begin
+pub mod Fits
