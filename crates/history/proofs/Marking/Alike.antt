@@ -14,7 +14,7 @@ use Rattle.history.proofs.Inv.{Plan, Scans, Ghosts, Inv, listed, word, 
 use Rattle.history.proofs.Words.{word-early}
 use Rattle.history.proofs.Lists.{member?}
 use Rattle.history.proofs.Marking.Stages.{unswept-of}
-use Rattle.history.proofs.Frame.{shape-same, handles-same, layout-same, Quiet, quiet-contents, quiet-calm, Next}
+use Rattle.history.proofs.Frame.{shape-same, handles-same, layout-same, Quiet, quiet-contents, quiet-calm, Calm, Next}
 use Rattle.history.proofs.Laid.{rooms-frame, marked-rooms-frame}
 
 pub record Alike (b c : Box) : Type 0 where
@@ -170,18 +170,19 @@ inv-alike b g c s i a lb lc ch mk st =
       stage = st;
     }
 
-pub next-alike : (b : Box) (g : Ghosts) (c : Box) (s : Scans) → Alike b c → b .state .phase ≤ 3 → c .state .phase ≤ 3 → Inv c (with-scans s g) → Next b g c
-next-alike b g c s a lb lc i = record { ghosts = with-scans s g; inv = i; calm = quiet-calm b (g .plan) c (g .plan) (quiet-alike b c (g .plan) a lb lc) }
+-- what is shown of a transition of the marking, from b with ghosts g to c: the tuples lie as before, and those of s wait for a scan
+pub record Onward (b : Box) (g : Ghosts) (c : Box) (s : Scans) : Type 0 where
+  pub inv : Inv c (with-scans s g)
+  pub calm : Calm b (g .plan) c (g .plan)
+
+pub onward-next : (b : Box) (g : Ghosts) (c : Box) (s : Scans) → Onward b g c s → Next b g c
+onward-next b g c s o = record { ghosts = with-scans s g; inv = o .inv; calm = o .calm }
+
+pub onward-alike : (b : Box) (g : Ghosts) (c : Box) (s : Scans) → Alike b c → b .state .phase ≤ 3 → c .state .phase ≤ 3 → Inv c (with-scans s g) → Onward b g c s
+onward-alike b g c s a lb lc i = record { inv = i; calm = quiet-calm b (g .plan) c (g .plan) (quiet-alike b c (g .plan) a lb lc) }
 
 -- the tuples that wait are listed anew, and no mark is set
-pub relists : (b : Box) (g : Ghosts) (c : Box) (s : Scans) → Inv b g → Alike b c → b .state .phase ≤ 3 → c .state .phase ≤ 3 → Relisted b c (g .scans) s → Stage c (with-scans s g) → Next b g c
+pub relists : (b : Box) (g : Ghosts) (c : Box) (s : Scans) → Inv b g → Alike b c → b .state .phase ≤ 3 → c .state .phase ≤ 3 → Relisted b c (g .scans) s → Stage c (with-scans s g) → Onward b g c s
 relists b g c s i a lb lc r st =
-    next-alike b g c s a lb lc
+    onward-alike b g c s a lb lc
     (inv-alike b g c s i a lb lc (rw (r .links-are) (i .handles .free-chain)) (marks-relisted b c (g .plan) (g .free) (g .scans) s a lb lc r (i .marks)) st)
-
--- a transition behind one that leaves the kept tuples as they were
-pub next-after : (b : Box) (g : Ghosts) (d : Box) (k : Ghosts) (c : Box) → Quiet b (g .plan) d (k .plan) → Next d k c → Next b g c
-next-after b g d k c q n = record { ghosts = n .ghosts; inv = n .inv; calm = record { kept-to = to; roots-same = λ r. n .calm .roots-same r ∙ q .roots-same r; sizes-same = λ h x. n .calm .sizes-same h x ∙ q .sizes-same h (to h x); words-same = λ h x i l. n .calm .words-same h x i (subst (λ (z : ℕ). i ≤ z) (sym (q .sizes-same h (to h x))) l) ∙ q .words-same h (to h x) i l } }
-  where
-    to : (h : ℕ) → Kept c (n .ghosts .plan) h → Kept b (g .plan) h
-    to h x = q .kept-to h (n .calm .kept-to h x)

@@ -17,7 +17,7 @@ use Rattle.history.proofs.Laid.{Front, laid-front, laid-from, laid-none
 use Rattle.history.proofs.Frame.{handles-moved, marks-same, Calm, Next}
 use Rattle.history.proofs.Resting.{resting-plan, resting, Finished, finished}
 use Rattle.history.proofs.Marking.Stages.{Finds, finds-of, kept-ahead}
-use Rattle.history.proofs.Marking.Alike.{Alike, alike-state, register-alike, word-alike, shape-alike, handles-alike, layout-alike, zero-unswept, kept-alike}
+use Rattle.history.proofs.Marking.Alike.{Alike, alike-state, register-alike, word-alike, shape-alike, handles-alike, layout-alike, zero-unswept, kept-alike, Onward, onward-next}
 use Rattle.history.proofs.Marking.Find.{listed-none}
 use Rattle.history.proofs.Marking.Shade.{ahead-entry}
 
@@ -69,11 +69,10 @@ begin-contents b g i e z roots = record { roots-kept = λ r l n. surviving (kept
     inside : (h : ℕ) → Kept c (g .plan) h → (k : ℕ) → k < size-of h b → names-tuple (word h (k + 1) c) ≡ true → Kept c (g .plan) (handle-of (word h (k + 1) c)) × (deep h b ≡ true)
     inside h x k l = subst (λ (w : Word). names-tuple w ≡ true → Kept c (g .plan) (handle-of w) × (deep h b ≡ true)) (sym (word-alike b c (begin-alike b) (omega arith) (omega arith) h (k + 1))) (closed h x k l)
 
-pub begins-sweep : (b : Box) (g : Ghosts) → Inv b g → b .state .phase ≡ 1 → b .state .next ≡ 0 → RootsMarked b → b .state .top ≢ 0 → Next b g (begin-sweep b)
+pub begins-sweep-onward : (b : Box) (g : Ghosts) → Inv b g → b .state .phase ≡ 1 → b .state .next ≡ 0 → RootsMarked b → b .state .top ≢ 0 → Onward b g (begin-sweep b) (g .scans)
 unfolding begin-sweep
-begins-sweep b g i e z roots t =
+begins-sweep-onward b g i e z roots t =
     record {
-      ghosts = g;
       inv = record {
         shape = shape-alike b c a (i .shape);
         handles = handles-alike b c (g .plan) (g .free) a (i .handles .free-chain) (i .handles);
@@ -100,6 +99,9 @@ begins-sweep b g i e z roots t =
 
     first-is : g .plan .ahead ≡ handle-of (word-at 0 b) ∷ front .rest
     first-is = front .is-cons ∙ ap (λ (h : ℕ). h ∷ front .rest) (front .named)
+
+pub begins-sweep : (b : Box) (g : Ghosts) → Inv b g → b .state .phase ≡ 1 → b .state .next ≡ 0 → RootsMarked b → b .state .top ≢ 0 → Next b g (begin-sweep b)
+begins-sweep b g i e z roots t = onward-next b g (begin-sweep b) (g .scans) (begins-sweep-onward b g i e z roots t)
 
 -- ---- nothing to sweep
 

@@ -20,8 +20,8 @@ use Rattle.history.proofs.Lists.{member-left, member-right, perm-shift,
 use Rattle.history.proofs.Chain.{chain-head, chain-empty}
 use Rattle.history.proofs.Frame.{Next}
 use Rattle.history.proofs.Marking.Stages.{Scanning, scanning-of, Adding, adding-of, kept-ahead}
-use Rattle.history.proofs.Marking.Alike.{Alike, alike-state, word-alike, Black, Relisted, with-scans, unswept-scans, relists, next-after}
-use Rattle.history.proofs.Marking.Shade.{shade-steady, shade-mark, shade-scans, shade-quiet, shade-inv, ahead-entry}
+use Rattle.history.proofs.Marking.Alike.{Alike, alike-state, word-alike, Black, Relisted, with-scans, unswept-scans, Onward, onward-next, onward-alike, relists}
+use Rattle.history.proofs.Marking.Shade.{shade-alike, shade-steady, shade-mark, shade-scans, shade-inv, ahead-entry}
 
 -- ---- the tuple under the scan
 
@@ -50,20 +50,27 @@ seen-more b g x P s l f last k u = go (ℕ-discrete (k + 1) (b .state .index))
     go (yes e) = subst (λ (w : Word). Names P w) (sym (scanned-word b g x s l (k + 1) e)) last
     go (no n) = f k (omega arith)
 
+-- a box of another phase
+alike-phase : (b c : Box) (p : ℕ) → Alike b c → Alike b (to-phase p c)
+alike-phase b c p a = record { words-are = a .words-are; flags-are = a .flags-are; addresses-are = a .addresses-are; sizes-are = a .sizes-are; deeps-are = a .deeps-are; links-length = a .links-length; marks-length = a .marks-length; m-is = a .m-is; h-is = a .h-is; registers-are = a .registers-are; register-flags-are = a .register-flags-are; top-is = a .top-is; free-is = a .free-is; held-is = a .held-is; hold-register-is = a .hold-register-is }
+
 -- the tuples that wait stay as they are, and the collector's place in the scan alone changes
 relisted-same : (b : Box) (g : Ghosts) (c : Box) → Inv b g → c .links ≡ b .links → c .marks ≡ b .marks → c .state .live ≡ b .state .live → c .state .next ≡ b .state .next → c .state .current ≡ b .state .current → Relisted b c (g .scans) (g .scans)
 relisted-same b g c i ln mk lv nx cr = record { links-are = ln; marks-are = mk; live-is = lv; nexts-chain = rw (ln, nx) (i .marks .nexts-chain); currents-chain = rw (ln, cr) (i .marks .currents-chain); distinct = i .marks .listed-distinct; none-added = λ h x. x; out-black = λ h x o. absurd (o x) }
 
 -- ---- 2 Mark scan
 
-pub scans-data : (b : Box) (g : Ghosts) → Inv b g → b .state .phase ≡ 2 → b .state .index ≤ b .state .size → names-tuple (word-at (b .state .src + b .state .index) b) ≡ false
-    → Next b g (with-state (with-index (b .state .index + 1) (b .state)) b)
-scans-data b g i e l n =
+abbrev pub data-passed : Box → Box
+data-passed b = with-state (with-index (b .state .index + 1) (b .state)) b
+
+pub scans-data-onward : (b : Box) (g : Ghosts) → Inv b g → b .state .phase ≡ 2 → b .state .index ≤ b .state .size → names-tuple (word-at (b .state .src + b .state .index) b) ≡ false
+    → Onward b g (data-passed b) (g .scans)
+scans-data-onward b g i e l n =
     relists b g c (g .scans) i alike (omega arith) (omega arith) (relisted-same b g c i refl refl refl refl refl)
     (scanning e (unswept-scans g (g .scans) (f .unswept-yet)) x (record { gray-is = s .gray-is; src-is = s .src-is; size-is = s .size-is; index-least = omega arith; index-most = omega arith }) seen)
   where
     c : Box
-    c = with-state (with-index (b .state .index + 1) (b .state)) b
+    c = data-passed b
 
     alike : Alike b c
     alike = alike-state b (c .state) refl refl refl refl refl refl refl refl
@@ -80,9 +87,15 @@ scans-data b g i e l n =
     seen : (k : ℕ) → k + 1 < b .state .index + 1 → names-tuple (word x (k + 1) c) ≡ true → marked (handle-of (word x (k + 1) c)) b ≡ true
     seen k u = subst (λ (w : Word). Names (λ y. marked y b ≡ true) w) (sym (word-alike b c alike (omega arith) (omega arith) x (k + 1))) (seen-more b g x (λ y. marked y b ≡ true) s (omega arith) (f .seen) (λ t. absurd (false≢true (sym n ∙ t))) k u)
 
-pub scans-pointer : (b : Box) (g : Ghosts) → Inv b g → b .state .phase ≡ 2 → b .state .index ≤ b .state .size → names-tuple (word-at (b .state .src + b .state .index) b) ≡ true
-    → Next b g (with-state (with-index (b .state .index + 1) (with-tuple (handle-of (word-at (b .state .src + b .state .index) b)) (with-phase 3 (b .state)))) b)
-scans-pointer b g i e l n =
+pub scans-data : (b : Box) (g : Ghosts) → Inv b g → b .state .phase ≡ 2 → b .state .index ≤ b .state .size → names-tuple (word-at (b .state .src + b .state .index) b) ≡ false → Next b g (data-passed b)
+scans-data b g i e l n = onward-next b g (data-passed b) (g .scans) (scans-data-onward b g i e l n)
+
+abbrev pub pointer-met : Box → Box
+pointer-met b = with-state (with-index (b .state .index + 1) (with-tuple (handle-of (word-at (b .state .src + b .state .index) b)) (with-phase 3 (b .state)))) b
+
+pub scans-pointer-onward : (b : Box) (g : Ghosts) → Inv b g → b .state .phase ≡ 2 → b .state .index ≤ b .state .size → names-tuple (word-at (b .state .src + b .state .index) b) ≡ true
+    → Onward b g (pointer-met b) (g .scans)
+scans-pointer-onward b g i e l n =
     relists b g c (g .scans) i alike (omega arith) (omega arith) (relisted-same b g c i refl refl refl refl refl)
     (adding refl (unswept-scans g (g .scans) (f .unswept-yet)) x (record { gray-is = s .gray-is; src-is = s .src-is; size-is = s .size-is; index-least = omega arith; index-most = omega arith }) there seen)
   where
@@ -90,7 +103,7 @@ scans-pointer b g i e l n =
     y = handle-of (word-at (b .state .src + b .state .index) b)
 
     c : Box
-    c = with-state (with-index (b .state .index + 1) (with-tuple y (with-phase 3 (b .state)))) b
+    c = pointer-met b
 
     alike : Alike b c
     alike = alike-state b (c .state) refl refl refl refl refl refl refl refl
@@ -120,6 +133,9 @@ scans-pointer b g i e l n =
     seen : (k : ℕ) → k + 1 < b .state .index + 1 → names-tuple (word x (k + 1) c) ≡ true → (marked (handle-of (word x (k + 1) c)) b ≡ true) ⊎ (handle-of (word x (k + 1) c) ≡ y)
     seen k u = subst (λ (v : Word). Names (λ z. (marked z b ≡ true) ⊎ (z ≡ y)) v) (sym (word-alike b c alike (omega arith) (omega arith) x (k + 1))) (seen-more b g x (λ z. (marked z b ≡ true) ⊎ (z ≡ y)) s (omega arith) (λ j v t. inl (f .seen j v t)) (λ t. inr refl) k u)
 
+pub scans-pointer : (b : Box) (g : Ghosts) → Inv b g → b .state .phase ≡ 2 → b .state .index ≤ b .state .size → names-tuple (word-at (b .state .src + b .state .index) b) ≡ true → Next b g (pointer-met b)
+scans-pointer b g i e l n = onward-next b g (pointer-met b) (g .scans) (scans-pointer-onward b g i e l n)
+
 -- a tuple scanned to its end
 scanned-black : (b : Box) (g : Ghosts) (f : Scanning b g) → b .state .size < b .state .index → Black b (f .scanned)
 scanned-black b g f l k u = f .seen k (omega (arith, f .scan-is .size-is))
@@ -128,8 +144,12 @@ scanned-black b g f l k u = f .seen k (omega (arith, f .scan-is .size-is))
 listed-scan : (b : Box) (g : Ghosts) (x : ℕ) (cs : List ℕ) → Scan b g x → g .scans .currents ≡ cs → listed (g .scans) ≡ x ∷ (g .scans .nexts ++ cs)
 listed-scan b g x cs s e = rw (s .gray-is, e)
 
-pub scan-ends : (b : Box) (g : Ghosts) → Inv b g → b .state .phase ≡ 2 → b .state .size < b .state .index → b .state .current ≡ 0 → Next b g (to-phase 1 b)
-scan-ends b g i e l z =
+-- none but the next list waits
+abbrev pub from-scan : Scans → Scans
+from-scan s = record { nexts = s .nexts; currents = []; gray = [] }
+
+pub scan-ends-onward : (b : Box) (g : Ghosts) → Inv b g → b .state .phase ≡ 2 → b .state .size < b .state .index → b .state .current ≡ 0 → Onward b g (to-phase 1 b) (from-scan (g .scans))
+scan-ends-onward b g i e l z =
     relists b g (to-phase 1 b) left i (alike-state b (to-phase 1 b .state) refl refl refl refl refl refl refl refl) (omega arith) (omega arith)
     (record { links-are = refl; marks-are = refl; live-is = refl; nexts-chain = i .marks .nexts-chain; currents-chain = z; distinct = subst (λ (hs : List ℕ). Distinct hs) same (i .marks .listed-distinct) .1; none-added = λ h m. subst (λ (hs : List ℕ). Member h hs) (sym same) (inr m); out-black = λ h m o. dark h o (subst (λ (hs : List ℕ). Member h hs) same m) })
     (finding refl (unswept-scans g left (f .unswept-yet)) refl refl)
@@ -141,7 +161,7 @@ scan-ends b g i e l z =
     x = f .scanned
 
     left : Scans
-    left = record { nexts = g .scans .nexts; currents = []; gray = [] }
+    left = from-scan (g .scans)
 
     least : (h : ℕ) → Member h (g .scans .currents) → 1 ≤ h
     least h m = ahead-entry b (g .plan) (g .free) h (i .handles) (i .marks .listed-ahead h (member-right h (g .scans .gray) (g .scans .nexts ++ g .scans .currents) (member-right h (g .scans .nexts) (g .scans .currents) m))) .0
@@ -153,9 +173,17 @@ scan-ends b g i e l z =
     dark h o (inl q) = subst (λ (y : ℕ). Black b y) (sym q) (scanned-black b g f l)
     dark h o (inr m) = absurd (o m)
 
-pub takes-current : (b : Box) (g : Ghosts) → Inv b g → b .state .phase ≡ 2 → b .state .size < b .state .index → b .state .current ≢ 0 → Next b g (scan (b .state .current) b)
+pub scan-ends : (b : Box) (g : Ghosts) → Inv b g → b .state .phase ≡ 2 → b .state .size < b .state .index → b .state .current ≡ 0 → Next b g (to-phase 1 b)
+scan-ends b g i e l z = onward-next b g (to-phase 1 b) (from-scan (g .scans)) (scan-ends-onward b g i e l z)
+
+-- h, the head of the current list, goes to the scan
+abbrev pub from-current : ℕ → List ℕ → Scans → Scans
+from-current h hs s = record { nexts = s .nexts; currents = hs; gray = h ∷ [] }
+
+pub takes-current-onward : (b : Box) (g : Ghosts) → Inv b g → b .state .phase ≡ 2 → b .state .size < b .state .index → b .state .current ≢ 0
+    → (tl : List ℕ) × (g .scans .currents ≡ b .state .current ∷ tl) × Onward b g (scan (b .state .current) b) (from-current (b .state .current) tl (g .scans))
 unfolding scan
-takes-current b g i e l n = go (chain-head (b .links) (b .state .current) (g .scans .currents) (i .marks .currents-chain) n)
+takes-current-onward b g i e l n = go (chain-head (b .links) (b .state .current) (g .scans .currents) (i .marks .currents-chain) n)
   where
     y : ℕ
     y = b .state .current
@@ -167,7 +195,7 @@ takes-current b g i e l n = go (chain-head (b .links) (b .state .current) (g .sc
     x = f .scanned
 
     left : List ℕ → Scans
-    left tl = record { nexts = g .scans .nexts; currents = tl; gray = y ∷ [] }
+    left tl = from-current y tl (g .scans)
 
     same : (tl : List ℕ) → g .scans .currents ≡ y ∷ tl → listed (g .scans) ≡ x ∷ (g .scans .nexts ++ y ∷ tl)
     same tl q = listed-scan b g x (y ∷ tl) (f .scan-is) q
@@ -176,17 +204,23 @@ takes-current b g i e l n = go (chain-head (b .links) (b .state .current) (g .sc
     dark tl h o (inl q) = subst (λ (z : ℕ). Black b z) (sym q) (scanned-black b g f l)
     dark tl h o (inr m) = absurd (o (perm-member (perm-shift y (g .scans .nexts) tl) h m))
 
-    go : (tl : List ℕ) × (g .scans .currents ≡ y ∷ tl) × Chain (b .links) (getD (b .links) y 0) tl → Next b g (scan y b)
+    go : (tl : List ℕ) × (g .scans .currents ≡ y ∷ tl) × Chain (b .links) (getD (b .links) y 0) tl → (tl : List ℕ) × (g .scans .currents ≡ y ∷ tl) × Onward b g (scan y b) (left tl)
     go c =
-        let tl : List ℕ = c .0 in
-        relists b g (scan y b) (left tl) i (alike-state b (scan y b .state) refl refl refl refl refl refl refl refl) (omega arith) (omega arith)
-        (record { links-are = refl; marks-are = refl; live-is = refl; nexts-chain = i .marks .nexts-chain; currents-chain = c .2; distinct = perm-distinct (perm-shift y (g .scans .nexts) tl) (subst (λ (hs : List ℕ). Distinct hs) (same tl (c .1)) (i .marks .listed-distinct) .1); none-added = λ h m. subst (λ (hs : List ℕ). Member h hs) (sym (same tl (c .1))) (inr (perm-member (perm-sym (perm-shift y (g .scans .nexts) tl)) h m)); out-black = λ h m o. dark tl h o (subst (λ (hs : List ℕ). Member h hs) (same tl (c .1)) m) })
-        (scanning refl (unswept-scans g (left tl) (f .unswept-yet)) y (record { gray-is = refl; src-is = refl; size-is = refl; index-least = omega arith; index-most = omega arith }) (λ k u t. absurd (omega arith)))
+        let tl : List ℕ = c .0 in (
+          tl,
+          c .1,
+          relists b g (scan y b) (left tl) i (alike-state b (scan y b .state) refl refl refl refl refl refl refl refl) (omega arith) (omega arith)
+              (record { links-are = refl; marks-are = refl; live-is = refl; nexts-chain = i .marks .nexts-chain; currents-chain = c .2; distinct = perm-distinct (perm-shift y (g .scans .nexts) tl) (subst (λ (hs : List ℕ). Distinct hs) (same tl (c .1)) (i .marks .listed-distinct) .1); none-added = λ h m. subst (λ (hs : List ℕ). Member h hs) (sym (same tl (c .1))) (inr (perm-member (perm-sym (perm-shift y (g .scans .nexts) tl)) h m)); out-black = λ h m o. dark tl h o (subst (λ (hs : List ℕ). Member h hs) (same tl (c .1)) m) })
+              (scanning refl (unswept-scans g (left tl) (f .unswept-yet)) y (record { gray-is = refl; src-is = refl; size-is = refl; index-least = omega arith; index-most = omega arith }) (λ k u t. absurd (omega arith))),
+        )
+
+pub takes-current : (b : Box) (g : Ghosts) → Inv b g → b .state .phase ≡ 2 → b .state .size < b .state .index → b .state .current ≢ 0 → Next b g (scan (b .state .current) b)
+takes-current b g i e l n = let o = takes-current-onward b g i e l n in onward-next b g (scan (b .state .current) b) (from-current (b .state .current) (o .0) (g .scans)) (o .2)
 
 -- ---- 3 Mark add
 
-pub adds-marked : (b : Box) (g : Ghosts) → Inv b g → b .state .phase ≡ 3 → marked (b .state .tuple) b ≡ true → Next b g (to-phase 2 b)
-adds-marked b g i e t =
+pub adds-marked-onward : (b : Box) (g : Ghosts) → Inv b g → b .state .phase ≡ 3 → marked (b .state .tuple) b ≡ true → Onward b g (to-phase 2 b) (g .scans)
+adds-marked-onward b g i e t =
     relists b g (to-phase 2 b) (g .scans) i alike (omega arith) (omega arith) (relisted-same b g (to-phase 2 b) i refl refl refl refl refl)
     (scanning refl (unswept-scans g (g .scans) (f .unswept-yet)) x (record { gray-is = s .gray-is; src-is = s .src-is; size-is = s .size-is; index-least = s .index-least; index-most = s .index-most }) seen)
   where
@@ -209,14 +243,18 @@ adds-marked b g i e t =
     seen : (k : ℕ) → k + 1 < b .state .index → names-tuple (word x (k + 1) (to-phase 2 b)) ≡ true → marked (handle-of (word x (k + 1) (to-phase 2 b))) b ≡ true
     seen k u = subst (λ (v : Word). Names (λ z. marked z b ≡ true) v) (sym (word-alike b (to-phase 2 b) alike (omega arith) (omega arith) x (k + 1))) (λ q. both (handle-of (word x (k + 1) b)) (f .seen k u q))
 
--- marked or not, `tuple` is shaded
-pub adds : (b : Box) (g : Ghosts) → Inv b g → b .state .phase ≡ 3 → Next b g (to-phase 2 (shade (b .state .tuple) b))
-adds b g i e =
+pub adds-marked : (b : Box) (g : Ghosts) → Inv b g → b .state .phase ≡ 3 → marked (b .state .tuple) b ≡ true → Next b g (to-phase 2 b)
+adds-marked b g i e t = onward-next b g (to-phase 2 b) (g .scans) (adds-marked-onward b g i e t)
+
+-- marked or not, `tuple` is shaded first
+pub adds-onward : (b : Box) (g : Ghosts) → Inv b g → b .state .phase ≡ 3 → Onward b g (to-phase 2 (shade (b .state .tuple) b)) (shade-scans (b .state .tuple) b (g .scans))
+adds-onward b g i e =
     let y : ℕ = b .state .tuple in
+    let s : Scans = shade-scans y b (g .scans) in
     let f : Adding b g = adding-of b g (i .stage) e in
     let t : marked y (shade y b) ≡ true = shade-mark y b (i .shape) (ahead-entry b (g .plan) (g .free) y (i .handles) (f .tuple-ahead) .1) in
-    next-after b g (shade y b) (with-scans (shade-scans y b (g .scans)) g) (to-phase 2 (shade y b)) (shade-quiet y b (g .plan) (omega arith))
-    (adds-marked (shade y b) (with-scans (shade-scans y b (g .scans)) g) (shade-inv y b g i (f .tuple-ahead) (omega arith) (omega arith)) (shade-steady y b .phase-is ∙ e) (subst (λ (z : ℕ). marked z (shade y b) ≡ true) (sym (shade-steady y b .tuple-is)) t))
+    let o : Onward (shade y b) (with-scans s g) (to-phase 2 (shade y b)) s = adds-marked-onward (shade y b) (with-scans s g) (shade-inv y b g i (f .tuple-ahead) (omega arith) (omega arith)) (shade-steady y b .phase-is ∙ e) (subst (λ (z : ℕ). marked z (shade y b) ≡ true) (sym (shade-steady y b .tuple-is)) t) in
+    onward-alike b g (to-phase 2 (shade y b)) s (alike-phase b (shade y b) 2 (shade-alike y b)) (omega arith) (omega arith) (o .inv)
 
 pub adds-unmarked : (b : Box) (g : Ghosts) → Inv b g → b .state .phase ≡ 3 → marked (b .state .tuple) b ≡ false → Next b g (to-phase 2 (shade (b .state .tuple) b))
-adds-unmarked b g i e u = adds b g i e
+adds-unmarked b g i e u = onward-next b g (to-phase 2 (shade (b .state .tuple) b)) (shade-scans (b .state .tuple) b (g .scans)) (adds-onward b g i e)

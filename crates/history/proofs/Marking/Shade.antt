@@ -30,12 +30,12 @@ push h s = record { nexts = h ∷ s .nexts; currents = s .currents; gray = s .gr
 unfoldable pub shade-scans : ℕ → Box → Scans → Scans
 shade-scans h b s = cond (marked h b) s (cond (deep h b) (push h s) s)
 
-pub data Shaded (h : ℕ) (b : Box) (s : Scans) : Box → Scans → Type 0 where
+data Shaded (h : ℕ) (b : Box) (s : Scans) : Box → Scans → Type 0 where
   already : marked h b ≡ true → Shaded h b s b s
   listing : marked h b ≡ false → deep h b ≡ true → Shaded h b s (list-next h (mark-live h b)) (push h s)
   counting : marked h b ≡ false → deep h b ≡ false → Shaded h b s (mark-live h b) s
 
-pub shaded : (h : ℕ) (b : Box) (s : Scans) → Shaded h b s (shade h b) (shade-scans h b s)
+shaded : (h : ℕ) (b : Box) (s : Scans) → Shaded h b s (shade h b) (shade-scans h b s)
 unfolding shade shade-scans
 shaded h b s = go (marked h b) (deep h b) refl refl
   where
@@ -318,3 +318,16 @@ shade-inv h b g i x v w =
 pub shade-already : (h : ℕ) (b : Box) → marked h b ≡ true → shade h b ≡ b
 unfolding shade
 shade-already h b e = simp e
+
+-- those that wait after it, by the cases of the rule
+pub shade-scans-already : (h : ℕ) (b : Box) (s : Scans) → marked h b ≡ true → shade-scans h b s ≡ s
+unfolding shade-scans
+shade-scans-already h b s e = simp e
+
+pub shade-scans-deep : (h : ℕ) (b : Box) (s : Scans) → marked h b ≡ false → deep h b ≡ true → shade-scans h b s ≡ push h s
+unfolding shade-scans
+shade-scans-deep h b s e f = simp (e, f)
+
+pub shade-scans-flat : (h : ℕ) (b : Box) (s : Scans) → marked h b ≡ false → deep h b ≡ false → shade-scans h b s ≡ s
+unfolding shade-scans
+shade-scans-flat h b s e f = simp (e, f)
