@@ -9,3 +9,4 @@ pub mod View
 pub mod Relation
 pub mod RelationKept
 pub mod Reach
+pub mod RelationAsked
