@@ -10,3 +10,4 @@ pub mod Relation
 pub mod RelationKept
 pub mod Reach
 pub mod RelationAsked
+pub mod RelationMade

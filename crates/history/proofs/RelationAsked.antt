@@ -1,7 +1,7 @@
 -- Requests that write a register keep the relation with the history machine: the word that the box puts there matches the one
 -- that the history machine puts there. A word of the history machine that matches a pointer is a pointer; what it names is the
 -- number of a kept tuple, and so has its size, tag and words. Assumes nothing.
-use Prim.Native.Nat.{ℕ, zero, suc, _+_, _*_, _/_, _%_, _≤_, _<_}
+use Prim.Native.Nat.{ℕ, _+_, _*_, _/_, _%_, _<_}
 use mathlib.Core.Bool.{Bool, true, false, not, cond, _&&_}
 use mathlib.Core.List.{List}
 use mathlib.Core.Logic.{_≢_, _⊎_, inl, inr}
