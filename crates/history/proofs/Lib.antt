@@ -11,3 +11,4 @@ pub mod RelationKept
 pub mod Reach
 pub mod RelationAsked
 pub mod RelationMade
+pub mod RelationStored

@@ -27,7 +27,7 @@ use Rattle.history.proofs.View.Request.{named, number as word-number, p
 -- ---- words
 
 -- a pointer other than nil is a pointer
-names-flag : (w : Word) → names-tuple w ≡ true → w .flag ≡ true
+pub names-flag : (w : Word) → names-tuple w ≡ true → w .flag ≡ true
 names-flag w n = and-left (w .flag) (not (is-nil w)) n
 
 -- data matches no pointer
