@@ -12,3 +12,4 @@ pub mod Reach
 pub mod RelationAsked
 pub mod RelationMade
 pub mod RelationStored
+pub mod RelationHeld
