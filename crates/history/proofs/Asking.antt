@@ -1,0 +1,2 @@
+-- Requests and the opening: each keeps the invariant.
+pub mod Opening
