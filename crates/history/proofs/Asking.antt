@@ -1,2 +1,4 @@
 -- Requests and the opening: each keeps the invariant.
 pub mod Opening
+pub mod Spots
+pub mod Looked
