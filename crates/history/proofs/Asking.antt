@@ -2,3 +2,4 @@
 pub mod Opening
 pub mod Spots
 pub mod Looked
+pub mod Steady
