@@ -3,3 +3,4 @@ pub mod Opening
 pub mod Spots
 pub mod Looked
 pub mod Steady
+pub mod Registers
