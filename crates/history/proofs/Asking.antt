@@ -4,3 +4,4 @@ pub mod Spots
 pub mod Looked
 pub mod Steady
 pub mod Registers
+pub mod NewTuple

@@ -2,13 +2,14 @@
 -- lie below low, the part already moved from low on, the part not yet moved from src + index up to base, and those ahead from base
 -- to top; within a region the layout keeps tuples apart. Assumes nothing.
 use Prim.Native.Nat.{ℕ, zero, suc, _+_, _-_, _≤_, _<_}
-use mathlib.Core.Bool.{Bool, true, false, _&&_}
+use mathlib.Core.Bool.{Bool, true, false, cond, _&&_}
 use mathlib.Core.List.{List, [], _∷_, _++_}
 use mathlib.Core.Logic.{_≢_, _⊎_, inl, inr}
 use mathlib.Core.Path.{_≡_, refl, sym, ap, _∙_, subst}
 use borrow.Author.Tests.{le-leb, lt-leb, lt-ltb, le-ltb, eq-eqb, ne-eqb}
 use native.Mathlib.Omega.{arith}
 use native.Mathlib.Decide.{ℕ-discrete, decLe, decLt}
+use lib.Dec.{leb, ltb, eqb}
 use Rattle.memory.specs.Box.{Box, Word, word-at, copy-register, address, size-of, marked}
 use Rattle.memory.specs.Place.{Place, copy-place, at, being-moved, place, read}
 use Rattle.history.specs.Agreement.{Member, Distinct}
@@ -157,14 +158,14 @@ pub data Found (b : Box) (g : Ghosts) (h i : ℕ) : Type 0 where
   in-words : (a : ℕ) → place h i b ≡ at a → Spot b g h i a → Found b g h i
 
 -- a member of a list of one
-member-one : (h k : ℕ) (hs : List ℕ) → hs ≡ k ∷ [] → Member h hs → h ≡ k
+pub member-one : (h k : ℕ) (hs : List ℕ) → hs ≡ k ∷ [] → Member h hs → h ≡ k
 member-one h k hs e m = only (subst (λ (ks : List ℕ). Member h ks) e m)
   where
     only : (h ≡ k) ⊎ ⊥ → h ≡ k
     only (inl d) = d
     only (inr d) = absurd d
 
-member-none : (h : ℕ) (hs : List ℕ) → hs ≡ [] → ¬ Member h hs
+pub member-none : (h : ℕ) (hs : List ℕ) → hs ≡ [] → ¬ Member h hs
 member-none h hs e m = subst (λ (ks : List ℕ). Member h ks) e m
 
 -- a tuple that is not the one being moved is at its address
@@ -179,7 +180,7 @@ not-moved b g s h n = cases (motion b g s)
 pub still-place : (b : Box) (g : Ghosts) → Stage b g → (h i : ℕ) → ¬ Member h (g .plan .mid) → place h i b ≡ at (address h b + i)
 still-place b g s h i n = place-still h i b (not-moved b g s h n)
 
-plan-parts : (b : Box) (g : Ghosts) → Inv b g → Parts (g .plan .done) (g .plan .mid) (g .plan .ahead) (g .free)
+pub plan-parts : (b : Box) (g : Ghosts) → Inv b g → Parts (g .plan .done) (g .plan .mid) (g .plan .ahead) (g .free)
 plan-parts b g v = parts (g .plan .done) (g .plan .mid) (g .plan .ahead) (g .free) (v .handles .distinct)
 
 find-done : (b : Box) (g : Ghosts) → Inv b g → (h i : ℕ) → Member h (g .plan .done) → i ≤ size-of h b → Found b g h i
@@ -243,3 +244,22 @@ spot-uncleared b g v h i a (moved-spot m e p l u) q r =
     let s : rooms b (g .plan .mid) ≡ size-of (b .state .tuple) b + 1 = ap (rooms b) (m .mid-is) ∙ rooms-one b (b .state .tuple) in
     omega (arith, low-live b g v)
 spot-uncleared b g v h i a (unmoved-spot m e p l u z) q r = omega arith
+
+-- ---- what keeps a kept tuple's word
+
+-- the place goes by these numbers, and by the tuple's address
+pub place-by : (h i : ℕ) (b c : Box) → c .state .phase ≡ b .state .phase → c .state .tuple ≡ b .state .tuple → c .state .index ≡ b .state .index → c .state .dest ≡ b .state .dest → address h c ≡ address h b → place h i c ≡ place h i b
+unfolding place being-moved
+place-by h i b c p t x d a =
+    λ j.
+    cond (eqb h (t j) && leb 5 (p j) && leb (p j) 7 && leb 6 (p j) && eqb i (x j)) copy-place
+    (cond (eqb h (t j) && leb 5 (p j) && leb (p j) 7 && ltb i (x j)) (at (d j + i)) (at (a j + i)))
+
+-- its place, and what is there
+pub word-by : (b : Box) (g : Ghosts) (c : Box) → Inv b g → (h i : ℕ) → Kept b (g .plan) h → i ≤ size-of h b → place h i c ≡ place h i b → copy-register c ≡ copy-register b → ((a : ℕ) → Spot b g h i a → word-at a c ≡ word-at a b) → word h i c ≡ word h i b
+unfolding word read
+word-by b g c v h i k l p r w = ap (λ (q : Place). read q c) p ∙ cases (find b g v h i k l)
+  where
+    cases : Found b g h i → read (place h i b) c ≡ read (place h i b) b
+    cases (in-copy e x y) = subst (λ (q : Place). read q c ≡ read q b) (sym e) r
+    cases (in-words a e s) = subst (λ (q : Place). read q c ≡ read q b) (sym e) (w a s)
