@@ -17,6 +17,7 @@ use Rattle.memory.specs.Box.{Box, Word, data-word, pointer, handle-of, offset-o
 use Rattle.memory.specs.Place.{Place, copy-place, at, being-moved, place, read}
 use Rattle.memory.specs.Request.{hold, word-number}
 use Rattle.memory.specs.Collector.{unheld}
+use Rattle.history.specs.Calls.{In16}
 use Rattle.history.proofs.Inv.{Plan, Ghosts, Inv, word, Kept, Shape, Layout, Contents, Zero}
 use Rattle.history.proofs.Frame.{SameShape, shape-same, layout-same, zero-same, Quiet, quiet-contents}
 use Rattle.history.proofs.Asking.Steady.{Steady, Rewords, steady-inv, steady-kept-to, steady-kept-from}
@@ -160,16 +161,16 @@ pub hold-quiet : (r n t : ℕ) (b : Box) (p : Plan) → Quiet b p (hold r n t b)
 unfolding hold
 hold-quiet r n t b p = record { kept-to = steady-kept-to b (hold r n t b) p (hold-steady r n t b); kept-from = steady-kept-from b (hold r n t b) p (hold-steady r n t b); roots-same = λ s. refl; sizes-same = λ h k. refl; words-same = λ h k i l. hold-word r n t b h i; deeps-same = λ h k. refl }
 
-hold-shape : (r n t : ℕ) (b : Box) → r < register-count → Shape b → Shape (hold r n t b)
+hold-shape : (r n t : ℕ) (b : Box) → r < register-count → In16 t → Shape b → Shape (hold r n t b)
 unfolding hold
-hold-shape r n t b l s = record { range = s .range; words-length = s .words-length; flags-length = s .flags-length; addresses-length = s .addresses-length; sizes-length = s .sizes-length; links-length = s .links-length; marks-length = s .marks-length; deeps-length = s .deeps-length; registers-length = s .registers-length; register-flags-length = s .register-flags-length; held-register = λ e. l }
+hold-shape r n t b l y s = record { range = s .range; words-length = s .words-length; flags-length = s .flags-length; addresses-length = s .addresses-length; sizes-length = s .sizes-length; links-length = s .links-length; marks-length = s .marks-length; deeps-length = s .deeps-length; registers-length = s .registers-length; register-flags-length = s .register-flags-length; held-register = λ e. (l, y) }
 
-pub invariant-hold : (b : Box) (g : Ghosts) → Inv b g → (r n t : ℕ) → r < register-count → Inv (hold r n t b) g
+pub invariant-hold : (b : Box) (g : Ghosts) → Inv b g → (r n t : ℕ) → r < register-count → In16 t → Inv (hold r n t b) g
 unfolding hold
-invariant-hold b g v r n t l =
+invariant-hold b g v r n t l y =
     steady-inv b (hold r n t b) g (hold-steady r n t b)
     (record { controls-same = λ h x. hold-word r n t b h 0; words-safe = λ h x i u. inl (hold-word r n t b h (i + 1)); deeps-stay = λ h e. e })
-    (hold-shape r n t b l (v .shape))
+    (hold-shape r n t b l y (v .shape))
     (layout-same b (hold r n t b) (g .plan) (λ h. refl) (λ h. refl) (λ a. refl) refl refl (v .layout))
     (quiet-contents b (g .plan) (hold r n t b) (g .plan) (hold-quiet r n t b (g .plan)) (v .contents))
     (zero-same b (hold r n t b) (g .zeroed) (λ a. refl) refl refl (v .zero-words))
