@@ -9,7 +9,7 @@ use mathlib.Core.Logic.{_⊎_, inl, inr}
 use mathlib.Core.Path.{_≡_, refl, sym, _∙_, ap, ap₂, subst}
 use native.Mathlib.Omega.{arith}
 use lib.ListN.{length}
-use Rattle.memory.specs.Limits.{register-count}
+use Rattle.memory.specs.Limits.{half-word, register-count}
 use Rattle.memory.specs.Box.{Box, Word, data-word, handle-of, names-tuple, word-at, register, address, size-of, marked, deep}
 use Rattle.history.specs.Agreement.{Member}
 use Rattle.history.proofs.Inv.{Plan, Scans, Ghosts, Inv, all, listed, word, rooms, marked-rooms, Chain, Kept, settled, moving, unswept, surviving, Shape, Handles, Layout, Contents, Zero, Marks}
@@ -17,6 +17,10 @@ use Rattle.history.proofs.Lists.{Perm, perm-member, perm-sym, perm-dist
 use Rattle.history.proofs.Laid.{laid-frame, laid-to, rooms-frame, marked-rooms-frame}
 
 -- ---- shape
+
+-- the register and the tag of a hold
+abbrev pub hold-of : Box → ℕ × ℕ
+hold-of b = (b .state .«hold_register», b .state .«hold_tag»)
 
 pub record SameShape (b c : Box) : Type 0 where
   pub m-same : c .state .m ≡ b .state .m
@@ -30,11 +34,11 @@ pub record SameShape (b c : Box) : Type 0 where
   pub deeps-same : length (c .deeps) ≡ length (b .deeps)
   pub registers-same : length (c .state .registers) ≡ length (b .state .registers)
   pub register-flags-same : length (c .state .flags) ≡ length (b .state .flags)
-  pub held-same : c .state .held ≡ true → (b .state .held ≡ true) × (c .state .«hold_register» ≡ b .state .«hold_register»)
+  pub held-same : c .state .held ≡ true → (b .state .held ≡ true) × (hold-of c ≡ hold-of b)
 
 pub shape-same : (b c : Box) → SameShape b c → Shape b → Shape c
 shape-same b c s p =
-    record { range = rw (s .m-same, s .h-same) (p .range); words-length = s .words-same ∙ p .words-length ∙ sym (s .m-same); flags-length = s .flags-same ∙ p .flags-length ∙ sym (s .m-same); addresses-length = s .addresses-same ∙ p .addresses-length ∙ sym (s .h-same); sizes-length = s .sizes-same ∙ p .sizes-length ∙ sym (s .h-same); links-length = s .links-same ∙ p .links-length ∙ sym (s .h-same); marks-length = s .marks-same ∙ p .marks-length ∙ sym (s .h-same); deeps-length = s .deeps-same ∙ p .deeps-length ∙ sym (s .h-same); registers-length = s .registers-same ∙ p .registers-length; register-flags-length = s .register-flags-same ∙ p .register-flags-length; held-register = λ e. rw (s .held-same e .1) (p .held-register (s .held-same e .0)) }
+    record { range = rw (s .m-same, s .h-same) (p .range); words-length = s .words-same ∙ p .words-length ∙ sym (s .m-same); flags-length = s .flags-same ∙ p .flags-length ∙ sym (s .m-same); addresses-length = s .addresses-same ∙ p .addresses-length ∙ sym (s .h-same); sizes-length = s .sizes-same ∙ p .sizes-length ∙ sym (s .h-same); links-length = s .links-same ∙ p .links-length ∙ sym (s .h-same); marks-length = s .marks-same ∙ p .marks-length ∙ sym (s .h-same); deeps-length = s .deeps-same ∙ p .deeps-length ∙ sym (s .h-same); registers-length = s .registers-same ∙ p .registers-length; register-flags-length = s .register-flags-same ∙ p .register-flags-length; held-register = λ e. subst (λ (t : ℕ × ℕ). (t .0 < register-count) × (t .1 < half-word)) (sym (s .held-same e .1)) (p .held-register (s .held-same e .0)) }
 
 -- ---- handles
 

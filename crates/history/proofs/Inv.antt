@@ -6,7 +6,7 @@ use mathlib.Core.List.{List, [], _∷_, _++_}
 use mathlib.Core.Logic.{_≢_, _⊎_}
 use mathlib.Core.Path.{_≡_}
 use lib.ListN.{length, getD}
-use Rattle.memory.specs.Limits.{register-count, in-range}
+use Rattle.memory.specs.Limits.{half-word, register-count, in-range}
 use Rattle.memory.specs.Box.{Box, Word, data-word, handle-of, names-tuple, word-at, register, address, size-of, marked, deep}
 use Rattle.memory.specs.Place.{place, read}
 use Rattle.history.specs.Agreement.{Member, Distinct}
@@ -92,8 +92,8 @@ pub record Shape (b : Box) : Type 0 where
   pub deeps-length : length (b .deeps) ≡ b .state .h
   pub registers-length : length (b .state .registers) ≡ register-count
   pub register-flags-length : length (b .state .flags) ≡ register-count
-  -- a hold names a register
-  pub held-register : b .state .held ≡ true → b .state .«hold_register» < register-count
+  -- a hold names a register, and its tag is of 16 bits
+  pub held-register : b .state .held ≡ true → (b .state .«hold_register» < register-count) × (b .state .«hold_tag» < half-word)
 
 pub record Handles (b : Box) (p : Plan) (free : List ℕ) : Type 0 where
   pub distinct : Distinct (all p free)

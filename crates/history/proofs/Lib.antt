@@ -15,7 +15,7 @@ pub mod RelationKept
 pub mod RelationAsked
 pub mod RelationMade
 pub mod RelationStored
-pub mod RelationHold
+pub mod RelationHeld
 pub mod Numbers
 pub mod Reach
 pub mod Tracked

@@ -1,0 +1,7 @@
+-- Requests and the opening: each keeps the invariant.
+pub mod Opening
+pub mod Spots
+pub mod Looked
+pub mod Steady
+pub mod Registers
+pub mod NewTuple
