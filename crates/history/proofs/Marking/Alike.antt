@@ -14,7 +14,7 @@ use Rattle.history.proofs.Inv.{Plan, Scans, Ghosts, Inv, listed, word, 
 use Rattle.history.proofs.Words.{word-early}
 use Rattle.history.proofs.Lists.{member?}
 use Rattle.history.proofs.Marking.Stages.{unswept-of}
-use Rattle.history.proofs.Frame.{shape-same, handles-same, layout-same, Quiet, quiet-contents, quiet-calm, Calm, Next}
+use Rattle.history.proofs.Frame.{hold-of, shape-same, handles-same, layout-same, Quiet, quiet-contents, quiet-calm, Calm, Next}
 use Rattle.history.proofs.Laid.{rooms-frame, marked-rooms-frame}
 
 pub record Alike (b c : Box) : Type 0 where
@@ -32,11 +32,11 @@ pub record Alike (b c : Box) : Type 0 where
   pub top-is : c .state .top ≡ b .state .top
   pub free-is : c .state .free ≡ b .state .free
   pub held-is : c .state .held ≡ b .state .held
-  pub hold-register-is : c .state .«hold_register» ≡ b .state .«hold_register»
+  pub hold-is : hold-of c ≡ hold-of b
 
 -- only the state differs
-pub alike-state : (b : Box) (s : State) → s .m ≡ b .state .m → s .h ≡ b .state .h → s .registers ≡ b .state .registers → s .flags ≡ b .state .flags → s .top ≡ b .state .top → s .free ≡ b .state .free → s .held ≡ b .state .held → s .«hold_register» ≡ b .state .«hold_register» → Alike b (with-state s b)
-alike-state b s m h r f t q d e = record { words-are = refl; flags-are = refl; addresses-are = refl; sizes-are = refl; deeps-are = refl; links-length = refl; marks-length = refl; m-is = m; h-is = h; registers-are = r; register-flags-are = f; top-is = t; free-is = q; held-is = d; hold-register-is = e }
+pub alike-state : (b : Box) (s : State) → s .m ≡ b .state .m → s .h ≡ b .state .h → s .registers ≡ b .state .registers → s .flags ≡ b .state .flags → s .top ≡ b .state .top → s .free ≡ b .state .free → s .held ≡ b .state .held → hold-of (with-state s b) ≡ hold-of b → Alike b (with-state s b)
+alike-state b s m h r f t q d e = record { words-are = refl; flags-are = refl; addresses-are = refl; sizes-are = refl; deeps-are = refl; links-length = refl; marks-length = refl; m-is = m; h-is = h; registers-are = r; register-flags-are = f; top-is = t; free-is = q; held-is = d; hold-is = e }
 
 -- ---- what is read off them
 
@@ -66,7 +66,7 @@ word-alike b c s lb lc h i =
 -- ---- the groups
 
 pub shape-alike : (b c : Box) → Alike b c → Shape b → Shape c
-shape-alike b c s = shape-same b c (record { m-same = s .m-is; h-same = s .h-is; words-same = ap length (s .words-are); flags-same = ap length (s .flags-are); addresses-same = ap length (s .addresses-are); sizes-same = ap length (s .sizes-are); links-same = s .links-length; marks-same = s .marks-length; deeps-same = ap length (s .deeps-are); registers-same = ap length (s .registers-are); register-flags-same = ap length (s .register-flags-are); held-same = λ e. (sym (s .held-is) ∙ e, s .hold-register-is) })
+shape-alike b c s = shape-same b c (record { m-same = s .m-is; h-same = s .h-is; words-same = ap length (s .words-are); flags-same = ap length (s .flags-are); addresses-same = ap length (s .addresses-are); sizes-same = ap length (s .sizes-are); links-same = s .links-length; marks-same = s .marks-length; deeps-same = ap length (s .deeps-are); registers-same = ap length (s .registers-are); register-flags-same = ap length (s .register-flags-are); held-same = λ e. (sym (s .held-is) ∙ e, s .hold-is) })
 
 pub handles-alike : (b c : Box) (p : Plan) (free : List ℕ) → Alike b c → Chain (c .links) (b .state .free) free → Handles b p free → Handles c p free
 handles-alike b c p free s ch = handles-same b c p free (s .h-is) (subst (λ (n : ℕ). Chain (c .links) n free) (sym (s .free-is)) ch)

@@ -48,9 +48,9 @@ shaded h b s = go (marked h b) (deep h b) refl refl
 
 shaded-alike : {h : ℕ} {b : Box} {s : Scans} {c : Box} {s′ : Scans} → Shaded h b s c s′ → Alike b c
 unfolding list-next mark-live
-shaded-alike (already e) = record { words-are = refl; flags-are = refl; addresses-are = refl; sizes-are = refl; deeps-are = refl; links-length = refl; marks-length = refl; m-is = refl; h-is = refl; registers-are = refl; register-flags-are = refl; top-is = refl; free-is = refl; held-is = refl; hold-register-is = refl }
-shaded-alike {h} {b} (listing e f) = record { words-are = refl; flags-are = refl; addresses-are = refl; sizes-are = refl; deeps-are = refl; links-length = length-set (b .links) h (b .state .next); marks-length = length-set (b .marks) h true; m-is = refl; h-is = refl; registers-are = refl; register-flags-are = refl; top-is = refl; free-is = refl; held-is = refl; hold-register-is = refl }
-shaded-alike {h} {b} (counting e f) = record { words-are = refl; flags-are = refl; addresses-are = refl; sizes-are = refl; deeps-are = refl; links-length = refl; marks-length = length-set (b .marks) h true; m-is = refl; h-is = refl; registers-are = refl; register-flags-are = refl; top-is = refl; free-is = refl; held-is = refl; hold-register-is = refl }
+shaded-alike (already e) = record { words-are = refl; flags-are = refl; addresses-are = refl; sizes-are = refl; deeps-are = refl; links-length = refl; marks-length = refl; m-is = refl; h-is = refl; registers-are = refl; register-flags-are = refl; top-is = refl; free-is = refl; held-is = refl; hold-is = refl }
+shaded-alike {h} {b} (listing e f) = record { words-are = refl; flags-are = refl; addresses-are = refl; sizes-are = refl; deeps-are = refl; links-length = length-set (b .links) h (b .state .next); marks-length = length-set (b .marks) h true; m-is = refl; h-is = refl; registers-are = refl; register-flags-are = refl; top-is = refl; free-is = refl; held-is = refl; hold-is = refl }
+shaded-alike {h} {b} (counting e f) = record { words-are = refl; flags-are = refl; addresses-are = refl; sizes-are = refl; deeps-are = refl; links-length = refl; marks-length = length-set (b .marks) h true; m-is = refl; h-is = refl; registers-are = refl; register-flags-are = refl; top-is = refl; free-is = refl; held-is = refl; hold-is = refl }
 
 -- the collector's numbers, but for live and next
 pub record Steady (b c : Box) : Type 0 where

@@ -36,7 +36,7 @@ copies-words b g m p l u i = go (turn i (b .state .index))
 
 copies-within : (b : Box) (g : Ghosts) → Move b g → b .state .phase ≡ 5 → 6 ≤ copied b .state .phase → copied b .state .phase ≤ 7 → Within b (copied b)
 unfolding copy-word
-copies-within b g m p l u = record { m-same = refl; h-same = refl; registers-same = refl; register-flags-same = refl; top-same = refl; free-same = refl; live-same = refl; current-same = refl; next-same = refl; src-same = refl; dest-same = refl; tuple-same = refl; size-same = refl; held-same = refl; hold-register-same = refl; addresses-same = refl; sizes-same = refl; links-same = refl; marks-same = refl; deeps-same = refl; words-length = refl; flags-length = refl; phase-before = omega arith; phase-after = omega arith; words-below = λ a x. refl; words-above = λ a x. refl; words-moved = λ i x. copies-words b g m p l u i }
+copies-within b g m p l u = record { m-same = refl; h-same = refl; registers-same = refl; register-flags-same = refl; top-same = refl; free-same = refl; live-same = refl; current-same = refl; next-same = refl; src-same = refl; dest-same = refl; tuple-same = refl; size-same = refl; held-same = refl; hold-same = refl; addresses-same = refl; sizes-same = refl; links-same = refl; marks-same = refl; deeps-same = refl; words-length = refl; flags-length = refl; phase-before = omega arith; phase-after = omega arith; words-below = λ a x. refl; words-above = λ a x. refl; words-moved = λ i x. copies-words b g m p l u i }
 
 -- zero words stay; where src + index is below live, the bound may pass it
 copies-zero : (b : Box) (z y : ℕ) → ((a : ℕ) → b .state .live ≤ a → a < y → a < z) → Zero b z → Zero (copied b) y

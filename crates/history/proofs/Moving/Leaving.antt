@@ -40,7 +40,7 @@ record Leaves (b c : Box) : Type 0 where
 
 leaves : (b : Box) → Leaves b (left-on b)
 unfolding go-on settle-move
-leaves b = record { settles = record { m-same = refl; h-same = refl; registers-same = refl; register-flags-same = refl; held-same = refl; hold-register-same = refl; addresses-set = refl; sizes-same = refl; links-same = refl; marks-same = refl; deeps-same = refl; words-same = refl; flags-same = refl }; top-same = refl; free-same = refl; live-same = refl; next-same = refl; current-same = refl; phase-is = refl; src-is = refl; dest-is = refl; tuple-is = refl }
+leaves b = record { settles = record { m-same = refl; h-same = refl; registers-same = refl; register-flags-same = refl; held-same = refl; hold-same = refl; addresses-set = refl; sizes-same = refl; links-same = refl; marks-same = refl; deeps-same = refl; words-same = refl; flags-same = refl }; top-same = refl; free-same = refl; live-same = refl; next-same = refl; current-same = refl; phase-is = refl; src-is = refl; dest-is = refl; tuple-is = refl }
 
 leaves-quiet : (b c : Box) (g : Ghosts) → Inv b g → Written b g → Leaves b c → Quiet b (g .plan) c (left-plan b g)
 leaves-quiet b c g v t w =

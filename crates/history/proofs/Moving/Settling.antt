@@ -15,7 +15,7 @@ use Rattle.history.proofs.Inv.{Ghosts, Inv, all, Control, Laid, Move, K
 use Rattle.history.proofs.Words.{word-early, word-moved, word-other}
 use Rattle.history.proofs.Lists.{Perm, perm-mid-done, member-cases, member-right}
 use Rattle.history.proofs.Laid.{laid-frame, laid-snoc, laid-to}
-use Rattle.history.proofs.Frame.{shape-same}
+use Rattle.history.proofs.Frame.{hold-of, shape-same}
 use Rattle.history.proofs.Moving.Facts.{Bounds, bounds, Lies, moved, below, above, lies, mid-only, done-other, ahead-other}
 
 -- the facts of the transition: every word is written
@@ -30,7 +30,7 @@ pub record Settles (b c : Box) : Type 0 where
   pub registers-same : c .state .registers ≡ b .state .registers
   pub register-flags-same : c .state .flags ≡ b .state .flags
   pub held-same : c .state .held ≡ b .state .held
-  pub hold-register-same : c .state .«hold_register» ≡ b .state .«hold_register»
+  pub hold-same : hold-of c ≡ hold-of b
   pub addresses-set : c .addresses ≡ set (b .addresses) (b .state .tuple) (b .state .dest)
   pub sizes-same : c .sizes ≡ b .sizes
   pub links-same : c .links ≡ b .links
@@ -44,7 +44,7 @@ abbrev pub settled-now : Box → Ghosts → List ℕ
 settled-now b g = g .plan .done ++ (b .state .tuple ∷ [])
 
 pub settles-shape : (b c : Box) → Settles b c → Shape b → Shape c
-settles-shape b c w s = shape-same b c (record { m-same = w .m-same; h-same = w .h-same; words-same = ap length (w .words-same); flags-same = ap length (w .flags-same); addresses-same = ap length (w .addresses-set) ∙ length-set (b .addresses) (b .state .tuple) (b .state .dest); sizes-same = ap length (w .sizes-same); links-same = ap length (w .links-same); marks-same = ap length (w .marks-same); deeps-same = ap length (w .deeps-same); registers-same = ap length (w .registers-same); register-flags-same = ap length (w .register-flags-same); held-same = λ e. (sym (w .held-same) ∙ e, w .hold-register-same) }) s
+settles-shape b c w s = shape-same b c (record { m-same = w .m-same; h-same = w .h-same; words-same = ap length (w .words-same); flags-same = ap length (w .flags-same); addresses-same = ap length (w .addresses-set) ∙ length-set (b .addresses) (b .state .tuple) (b .state .dest); sizes-same = ap length (w .sizes-same); links-same = ap length (w .links-same); marks-same = ap length (w .marks-same); deeps-same = ap length (w .deeps-same); registers-same = ap length (w .registers-same); register-flags-same = ap length (w .register-flags-same); held-same = λ e. (sym (w .held-same) ∙ e, w .hold-same) }) s
 
 pub size-same : (b c : Box) → Settles b c → (h : ℕ) → size-of h c ≡ size-of h b
 size-same b c w h = ap (λ (s : List ℕ). getD s h 0) (w .sizes-same)

@@ -14,7 +14,7 @@ use Rattle.history.specs.Agreement.{Member}
 use Rattle.history.proofs.Inv.{Ghosts, Inv, Control, Move, Kept, Zero, Layout, Stage, word}
 use Rattle.history.proofs.Words.{word-other}
 use Rattle.history.proofs.Laid.{laid-frame, laid-to, rooms-frame}
-use Rattle.history.proofs.Frame.{SameShape, shape-same, handles-same, marks-same, kept-same, Quiet, quiet-contents, quiet-calm, Next}
+use Rattle.history.proofs.Frame.{hold-of, SameShape, shape-same, handles-same, marks-same, kept-same, Quiet, quiet-contents, quiet-calm, Next}
 use Rattle.history.proofs.Moving.Facts.{Lies, moved, below, above, lies, done-below, ahead-above}
 
 pub record Within (b c : Box) : Type 0 where
@@ -32,7 +32,7 @@ pub record Within (b c : Box) : Type 0 where
   pub tuple-same : c .state .tuple ≡ b .state .tuple
   pub size-same : c .state .size ≡ b .state .size
   pub held-same : c .state .held ≡ b .state .held
-  pub hold-register-same : c .state .«hold_register» ≡ b .state .«hold_register»
+  pub hold-same : hold-of c ≡ hold-of b
   pub addresses-same : c .addresses ≡ b .addresses
   pub sizes-same : c .sizes ≡ b .sizes
   pub links-same : c .links ≡ b .links
@@ -51,7 +51,7 @@ abbrev pub zeroed-to : ℕ → Ghosts → Ghosts
 zeroed-to z g = record { plan = g .plan; free = g .free; scans = g .scans; zeroed = z }
 
 same-shape : (b c : Box) → Within b c → SameShape b c
-same-shape b c w = record { m-same = w .m-same; h-same = w .h-same; words-same = w .words-length; flags-same = w .flags-length; addresses-same = ap length (w .addresses-same); sizes-same = ap length (w .sizes-same); links-same = ap length (w .links-same); marks-same = ap length (w .marks-same); deeps-same = ap length (w .deeps-same); registers-same = ap length (w .registers-same); register-flags-same = ap length (w .register-flags-same); held-same = λ e. (sym (w .held-same) ∙ e, w .hold-register-same) }
+same-shape b c w = record { m-same = w .m-same; h-same = w .h-same; words-same = w .words-length; flags-same = w .flags-length; addresses-same = ap length (w .addresses-same); sizes-same = ap length (w .sizes-same); links-same = ap length (w .links-same); marks-same = ap length (w .marks-same); deeps-same = ap length (w .deeps-same); registers-same = ap length (w .registers-same); register-flags-same = ap length (w .register-flags-same); held-same = λ e. (sym (w .held-same) ∙ e, w .hold-same) }
 
 address-same : (b c : Box) → Within b c → (h : ℕ) → address h c ≡ address h b
 address-same b c w h = ap (λ (s : List ℕ). getD s h 0) (w .addresses-same)
