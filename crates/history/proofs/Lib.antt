@@ -19,6 +19,7 @@ pub mod RelationHeld
 pub mod Numbers
 pub mod Reach
 pub mod Tracked
+pub mod SparedMachine
 pub mod TrackedStep
 pub mod Census
 pub mod Answers

@@ -75,11 +75,11 @@ pub made-make : (r n tag : ℕ) (m : History) → made (make r n tag m) ≡ suc 
 unfolding make
 made-make r n tag m = last-length (m .tuples) (new-of n tag)
 
-tuple-old : (r n tag : ℕ) (m : History) (i : ℕ) → i ≤ made m → tuple-of i (make r n tag m) ≡ tuple-of i m
+pub tuple-old : (r n tag : ℕ) (m : History) (i : ℕ) → i ≤ made m → tuple-of i (make r n tag m) ≡ tuple-of i m
 unfolding make
 tuple-old r n tag m i l = last-old (m .tuples) (new-of n tag) nil-tuple nil-tuple i l
 
-tuple-new : (r n tag : ℕ) (m : History) → tuple-of (suc (made m)) (make r n tag m) ≡ new-of n tag
+pub tuple-new : (r n tag : ℕ) (m : History) → tuple-of (suc (made m)) (make r n tag m) ≡ new-of n tag
 unfolding make
 tuple-new r n tag m = last-new (m .tuples) (new-of n tag) nil-tuple nil-tuple
 
@@ -87,7 +87,7 @@ register-made-of : (r n tag : ℕ) (m : History) → r < length (m .registers) �
 unfolding make
 register-made-of r n tag m l = getD-set-same (m .registers) r (pointer-to (suc (made m)) 0) (datum 0) l
 
-register-other-of : (r n tag : ℕ) (m : History) (s : ℕ) → s ≢ r → register-of s (make r n tag m) ≡ register-of s m
+pub register-other-of : (r n tag : ℕ) (m : History) (s : ℕ) → s ≢ r → register-of s (make r n tag m) ≡ register-of s m
 unfolding make
 register-other-of r n tag m s e = getD-set-other (m .registers) r s (pointer-to (suc (made m)) 0) (datum 0) e
 

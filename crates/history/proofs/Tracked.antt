@@ -34,7 +34,7 @@ pub record Tracked (b : Box) (p : Plan) (m : History) (number : ℕ → ℕ) (st
 -- ---- the cycle starts
 
 -- a number that no tuple has is empty
-size-beyond : (i : ℕ) (m : History) → made m < i → size-at i m ≡ 0
+pub size-beyond : (i : ℕ) (m : History) → made m < i → size-at i m ≡ 0
 size-beyond i m l = ap (λ (t : Rattle.history.specs.Machine.HTuple). length (t .words)) (List·getD-eq-default (nil-tuple ∷ m .tuples) nil-tuple {n = i} (omega arith))
 
 -- b is the box after its Rest step: phase 1, and nothing marked
