@@ -21,5 +21,6 @@ pub mod Reach
 pub mod Tracked
 pub mod SparedMachine
 pub mod TrackedStep
+pub mod TrackedAsked
 pub mod Census
 pub mod Answers
