@@ -13,3 +13,4 @@ pub mod RelationAsked
 pub mod RelationMade
 pub mod RelationStored
 pub mod RelationHeld
+pub mod RelationRequest

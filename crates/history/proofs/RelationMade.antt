@@ -38,6 +38,10 @@ pub record Made (b : Box) (p : Plan) (c : Box) (q : Plan) (r h n tag : ℕ) : Ty
   pub tag-made : tag-of (word h 0 c) ≡ tag
   pub words-made : (k : ℕ) → k < n → word h (k + 1) c ≡ data-word 0
 
+-- the handle that the register names after it
+pub made-handle : (b : Box) (p : Plan) (c : Box) (q : Plan) (r h n tag : ℕ) → Made b p c q r h n tag → handle-of (register r c) ≡ h
+made-handle b p c q r h n tag a = ap handle-of (a .register-made) ∙ pointer-handle h 0 (omega arith)
+
 -- ---- the numbers of handles with that of the new tuple
 
 abbrev pub renumbered : (ℕ → ℕ) → ℕ → ℕ → ℕ → ℕ
