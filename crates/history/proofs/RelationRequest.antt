@@ -1,6 +1,6 @@
 -- Every request keeps the relation with the history machine, fed the request and its answer: by the view of requests, each case
--- by the theorem of its kind. What a carried out GETM and a carried out STORE change in the box is taken as given (`Carried`), and
--- proved where the definitions are opened. Assumes nothing.
+-- by the theorem of its kind. What a GETM or a STORE that was carried out changes in the box is a hypothesis of the theorem
+-- (`Carried`). Assumes nothing else.
 use Prim.Native.Nat.{ℕ, suc, _<_}
 use mathlib.Core.Bool.{Bool, true, false, cond}
 use mathlib.Core.List.{List, [], _∷_, _++_}
