@@ -16,6 +16,7 @@ pub mod RelationAsked
 pub mod RelationMade
 pub mod RelationStored
 pub mod RelationHeld
+pub mod RelationRequest
 pub mod Numbers
 pub mod Reach
 pub mod Tracked

@@ -2,7 +2,7 @@
 -- that the history machine puts there. A word of the history machine that matches a pointer is a pointer; what it names is the
 -- number of a kept tuple, and so has its size, tag and words. Assumes nothing.
 use Prim.Native.Nat.{ℕ, _+_, _*_, _/_, _%_, _<_}
-use mathlib.Core.Bool.{Bool, true, false, not, cond, _&&_}
+use mathlib.Core.Bool.{Bool, true, false, not, cond, _&&_, and-true, and-false}
 use mathlib.Core.List.{List}
 use mathlib.Core.Logic.{_≢_, _⊎_, inl, inr}
 use mathlib.Core.Path.{_≡_, refl, sym, _∙_, ap, ap₂, subst}
@@ -44,14 +44,6 @@ pointer-offset h o l = omega arith
 -- handle and offset determine the bits
 bits-same : (v w : Word) → handle-of v ≡ handle-of w → offset-of v ≡ offset-of w → v .bits ≡ w .bits
 bits-same v w e f = sym (div-add-mod' (v .bits) half-word) ∙ ap₂ (λ (x y : ℕ). x * half-word + y) e f ∙ div-add-mod' (w .bits) half-word
-
-and-true : (t : Bool) → (t && true) ≡ t
-and-true true = refl
-and-true false = refl
-
-and-false : (t : Bool) → (t && false) ≡ false
-and-false true = refl
-and-false false = refl
 
 -- SAME compares alike on both sides
 pub same-alike : (number : ℕ → ℕ) (given : List ℕ) (v w : Word) (x y : HWord) → Match number v x → Match number w y → Matches given v x → Matches given w y → same-word v w ≡ same-hword x y

@@ -68,7 +68,14 @@ calm-unheld b p = record { kept-to = kept-unheld-to b p; roots-same = λ s. refl
 
 pub related-with-hold : (o : Option Asked) (b : Box) (p : Plan) (m : History) (given : List ℕ) (number : ℕ → ℕ) → Related b p m given number → Related b p (with-hold o m) given number
 related-with-hold o b p m given number s =
-    record { roots-match = s .roots-match; kept-hold = held; nil-number = s .nil-number; all-given = s .all-given; given-entry = s .given-entry; number-latest = s .number-latest }
+    record {
+      roots-match = s .roots-match;
+      kept-hold = held;
+      nil-number = s .nil-number;
+      all-given = s .all-given;
+      given-entry = s .given-entry;
+      number-latest = s .number-latest;
+    }
   where
     held : (h : ℕ) → Kept b p h → Holds b (with-hold o m) given number h
     held h k =

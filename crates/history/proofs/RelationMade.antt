@@ -38,6 +38,10 @@ pub record Made (b : Box) (p : Plan) (c : Box) (q : Plan) (r h n tag : ℕ) : Ty
   pub tag-made : tag-of (word h 0 c) ≡ tag
   pub words-made : (k : ℕ) → k < n → word h (k + 1) c ≡ data-word 0
 
+-- the handle that the register names after it
+pub made-handle : (b : Box) (p : Plan) (c : Box) (q : Plan) (r h n tag : ℕ) → Made b p c q r h n tag → handle-of (register r c) ≡ h
+made-handle b p c q r h n tag a = ap handle-of (a .register-made) ∙ pointer-handle h 0 (omega arith)
+
 -- ---- the numbers of handles with that of the new tuple
 
 abbrev pub renumbered : (ℕ → ℕ) → ℕ → ℕ → ℕ → ℕ
@@ -140,7 +144,13 @@ module _ (b : Box) (p : Plan) (c : Box) (q : Plan) (r h n tag : ℕ) (m : Histor
   -- a tuple kept before
   holds-old : (x : ℕ) → Kept b p x → Holds c machine handles numbers x
   holds-old x k =
-      record { number-made = (rw same (y .number-made .0), rw (same, made-make r n tag m) (le-suc-of-le (number x) (made m) (y .number-made .1))); handle-given = ap (λ (z : ℕ). handle-at z handles) same ∙ given-old (number x) (y .number-made .1) ∙ y .handle-given; size-same = a .sizes-same x k ∙ y .size-same ∙ ap (λ (t : HTuple). length (t .words)) (sym tuple-same); tag-same = ap tag-of (a .words-same x k 0 zero-le) ∙ y .tag-same ∙ ap (λ (t : HTuple). t .tag) (sym tuple-same); words-match = words }
+      record {
+        number-made = (rw same (y .number-made .0), rw (same, made-make r n tag m) (le-suc-of-le (number x) (made m) (y .number-made .1)));
+        handle-given = ap (λ (z : ℕ). handle-at z handles) same ∙ given-old (number x) (y .number-made .1) ∙ y .handle-given;
+        size-same = a .sizes-same x k ∙ y .size-same ∙ ap (λ (t : HTuple). length (t .words)) (sym tuple-same);
+        tag-same = ap tag-of (a .words-same x k 0 zero-le) ∙ y .tag-same ∙ ap (λ (t : HTuple). t .tag) (sym tuple-same);
+        words-match = words;
+      }
     where
       y : Holds b m given number x
       y = s .kept-hold x k
@@ -165,7 +175,13 @@ module _ (b : Box) (p : Plan) (c : Box) (q : Plan) (r h n tag : ℕ) (m : Histor
   -- the new one
   holds-new : Holds c machine handles numbers h
   holds-new =
-      record { number-made = (rw same (suc-le-suc zero-le), rw (same, made-make r n tag m) (le-refl (suc (made m)))); handle-given = ap (λ (z : ℕ). handle-at z handles) same ∙ given-new; size-same = a .size-made ∙ sym (length-replicate n (datum 0)) ∙ ap (λ (t : HTuple). length (t .words)) (sym tuple-is); tag-same = a .tag-made ∙ ap (λ (t : HTuple). t .tag) (sym tuple-is); words-match = words }
+      record {
+        number-made = (rw same (suc-le-suc zero-le), rw (same, made-make r n tag m) (le-refl (suc (made m))));
+        handle-given = ap (λ (z : ℕ). handle-at z handles) same ∙ given-new;
+        size-same = a .size-made ∙ sym (length-replicate n (datum 0)) ∙ ap (λ (t : HTuple). length (t .words)) (sym tuple-is);
+        tag-same = a .tag-made ∙ ap (λ (t : HTuple). t .tag) (sym tuple-is);
+        words-match = words;
+      }
     where
       same : numbers h ≡ suc (made m)
       same = renumbered-same number h (suc (made m)) h refl
@@ -216,4 +232,11 @@ module _ (b : Box) (p : Plan) (c : Box) (q : Plan) (r h n tag : ℕ) (m : Histor
 
   pub related-made : Related c q (make r n tag m) (given ++ h ∷ []) (renumbered number h (suc (made m)))
   related-made =
-      record { roots-match = λ t u. root-any t u (eq? t r); kept-hold = λ x k. holds-any x (a .kept-to x k); nil-number = renumbered-other number h (suc (made m)) 0 (λ e. a .handle-not-nil (sym e)) ∙ s .nil-number; all-given = last-length given h ∙ ap suc (s .all-given) ∙ sym (made-make r n tag m); given-entry = λ j o u. entry j o (number? j u); number-latest = λ j o u. latest-number j o (number? j u) }
+      record {
+        roots-match = λ t u. root-any t u (eq? t r);
+        kept-hold = λ x k. holds-any x (a .kept-to x k);
+        nil-number = renumbered-other number h (suc (made m)) 0 (λ e. a .handle-not-nil (sym e)) ∙ s .nil-number;
+        all-given = last-length given h ∙ ap suc (s .all-given) ∙ sym (made-make r n tag m);
+        given-entry = λ j o u. entry j o (number? j u);
+        number-latest = λ j o u. latest-number j o (number? j u);
+      }

@@ -99,7 +99,13 @@ module _ (b : Box) (p : Plan) (c : Box) (h k : ℕ) (w : Word) (v : HWord) (m : 
   -- another tuple
   holds-other : (x : ℕ) → Kept b p x → x ≢ h → Holds c machine given number x
   holds-other x y n =
-      record { number-made = (z .number-made .0, made-bound (number x) (z .number-made .1)); handle-given = z .handle-given; size-same = a .sizes-same x y ∙ z .size-same ∙ ap (λ (t : HTuple). length (t .words)) (sym same); tag-same = ap tag-of (a .words-same x y 0 zero-le (inl n)) ∙ z .tag-same ∙ ap (λ (t : HTuple). t .tag) (sym same); words-match = words }
+      record {
+        number-made = (z .number-made .0, made-bound (number x) (z .number-made .1));
+        handle-given = z .handle-given;
+        size-same = a .sizes-same x y ∙ z .size-same ∙ ap (λ (t : HTuple). length (t .words)) (sym same);
+        tag-same = ap tag-of (a .words-same x y 0 zero-le (inl n)) ∙ z .tag-same ∙ ap (λ (t : HTuple). t .tag) (sym same);
+        words-match = words;
+      }
     where
       z : Holds b m given number x
       z = s .kept-hold x y
@@ -131,7 +137,13 @@ module _ (b : Box) (p : Plan) (c : Box) (h k : ℕ) (w : Word) (v : HWord) (m : 
 
   holds-written : Holds c machine given number h
   holds-written =
-      record { number-made = (top .number-made .0, made-bound (number h) (top .number-made .1)); handle-given = top .handle-given; size-same = a .sizes-same h kept ∙ top .size-same ∙ sym (length-set (tuple-of (number h) m .words) k v) ∙ ap (λ (t : HTuple). length (t .words)) (sym same-there); tag-same = ap tag-of (a .words-same h kept 0 zero-le (inr (omega arith))) ∙ top .tag-same ∙ ap (λ (t : HTuple). t .tag) (sym same-there); words-match = words }
+      record {
+        number-made = (top .number-made .0, made-bound (number h) (top .number-made .1));
+        handle-given = top .handle-given;
+        size-same = a .sizes-same h kept ∙ top .size-same ∙ sym (length-set (tuple-of (number h) m .words) k v) ∙ ap (λ (t : HTuple). length (t .words)) (sym same-there);
+        tag-same = ap tag-of (a .words-same h kept 0 zero-le (inr (omega arith))) ∙ top .tag-same ∙ ap (λ (t : HTuple). t .tag) (sym same-there);
+        words-match = words;
+      }
     where
       words : (j : ℕ) → j < size-of h c → Match number (word h (j + 1) c) (word-of (number h) j machine)
       words j u =
@@ -144,7 +156,14 @@ module _ (b : Box) (p : Plan) (c : Box) (h k : ℕ) (w : Word) (v : HWord) (m : 
 
   pub related-stored : Related c p (stored-in (number h) k v m) given number
   related-stored =
-      record { roots-match = λ r l. subst (λ (x : Word). Match number x (register-of r m)) (sym (a .roots-same r)) (s .roots-match r l); kept-hold = λ x y. holds-any x (a .kept-to x y) (eq? x h); nil-number = s .nil-number; all-given = s .all-given ∙ sym (made-stored (number h) k v m); given-entry = λ n l u. rw (a .h-same) (s .given-entry n l (bound-made n u)); number-latest = λ n l u. s .number-latest n l (bound-made n u) }
+      record {
+        roots-match = λ r l. subst (λ (x : Word). Match number x (register-of r m)) (sym (a .roots-same r)) (s .roots-match r l);
+        kept-hold = λ x y. holds-any x (a .kept-to x y) (eq? x h);
+        nil-number = s .nil-number;
+        all-given = s .all-given ∙ sym (made-stored (number h) k v m);
+        given-entry = λ n l u. rw (a .h-same) (s .given-entry n l (bound-made n u));
+        number-latest = λ n l u. s .number-latest n l (bound-made n u);
+      }
 
 -- ---- the request
 
