@@ -5,3 +5,4 @@ pub mod Chain
 pub mod Laid
 pub mod Frame
 pub mod Resting
+pub mod Sums
