@@ -6,3 +6,5 @@ pub mod Laid
 pub mod Frame
 pub mod Resting
 pub mod Sums
+pub mod Left
+pub mod Falls
