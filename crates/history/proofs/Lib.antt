@@ -7,4 +7,5 @@ pub mod Frame
 pub mod Resting
 pub mod Sums
 pub mod Left
-pub mod Falls
+pub mod LeftFalls
+pub mod LeftBounds
