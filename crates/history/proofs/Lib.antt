@@ -9,3 +9,4 @@ pub mod Sums
 pub mod Left
 pub mod LeftFalls
 pub mod LeftBounds
+pub mod Fixed
