@@ -2,17 +2,18 @@
 -- begins names it; and the tuples that wait for a scan, since they are the chains of the two lists. Each by induction on the two
 -- lists or by the stage. Assumes nothing.
 use Prim.Native.Nat.{ℕ, _+_, _≤_, _<_}
+use mathlib.Core.Bool.{false}
 use mathlib.Core.List.{List, [], _∷_, _++_}
 use mathlib.Core.Logic.{inl, inr}
-use mathlib.Core.Path.{_≡_, refl, sym, ap₂, _∙_, subst}
+use mathlib.Core.Path.{_≡_, refl, sym, ap, ap₂, _∙_, subst}
 use native.Mathlib.Omega.{arith}
 use lib.ListN.{getD}
-use Rattle.memory.specs.Box.{Box, size-of}
+use Rattle.memory.specs.Box.{Box, word-at, address, size-of}
 use Rattle.memory.specs.Collector.{after}
 use Rattle.history.specs.Agreement.{Member}
 use Rattle.history.proofs.Inv.{Scans, Ghosts, Inv, Chain, Laid, listed, Stage, at-rest, finding, scanning, adding, sweeping, reading, clearing, writing, zeroing}
 use Rattle.history.proofs.Lists.{member-left, member-right}
-use Rattle.history.proofs.Laid.{laid-le, laid-from}
+use Rattle.history.proofs.Laid.{laid-le, laid-from, laid-to, laid-words}
 
 -- ---- two lists that lie alike, and two chains from one head
 
@@ -96,6 +97,31 @@ base-behind b g v l = by-stage (v .stage)
 pub ahead-fixed : (c : Box) (g : Ghosts) (a : ℕ) (hs : List ℕ) → Inv c g → g .plan .base ≡ a → Laid c a hs (c .state .top) → g .plan .ahead ≡ hs
 ahead-fixed c g a hs v e l =
     laid-unique c (g .plan .base) (g .plan .ahead) hs (c .state .top) (v .layout .ahead-laid) (laid-from c a (g .plan .base) hs (c .state .top) (sym e) l)
+
+-- c is b where tuples that lie from a to top are read
+pub record SameLaid (b c : Box) (a : ℕ) (hs : List ℕ) : Type 0 where
+  pub addresses : (h : ℕ) → Member h hs → address h c ≡ address h b
+  pub sizes : (h : ℕ) → size-of h c ≡ size-of h b
+  pub words : (x : ℕ) → a ≤ x → word-at x c ≡ word-at x b
+  pub top : c .state .top ≡ b .state .top
+
+-- the columns that it reads are the same
+pub same-columns : (b c : Box) (a : ℕ) (hs : List ℕ) → c .addresses ≡ b .addresses → c .sizes ≡ b .sizes → c .words ≡ b .words → c .flags ≡ b .flags → c .state .top ≡ b .state .top
+    → SameLaid b c a hs
+same-columns b c a hs ad sz wd fl t =
+    record {
+      addresses = λ h m. ap (λ (l : List ℕ). getD l h 0) ad;
+      sizes = λ h. ap (λ (l : List ℕ). getD l h 0) sz;
+      words = λ x u. λ i. record { bits = getD (wd i) x 0; flag = getD (fl i) x false };
+      top = t;
+    }
+
+-- the tuples of b that lie from where those ahead begin in c are those ahead in c
+pub ahead-carried : (b c : Box) (g : Ghosts) (a : ℕ) (hs : List ℕ) → Laid b a hs (b .state .top) → SameLaid b c a hs → Inv c g → g .plan .base ≡ a → g .plan .ahead ≡ hs
+ahead-carried b c g a hs l s v e =
+    ahead-fixed c g a hs v e
+    (laid-to c a hs (b .state .top) (c .state .top) (sym (s .top))
+    (laid-words b c a hs (b .state .top) (s .addresses) (λ h m. s .sizes h) (λ x u w. s .words x u) l))
 
 -- ---- handles that can be looked up
 

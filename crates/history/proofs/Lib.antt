@@ -10,3 +10,4 @@ pub mod Left
 pub mod LeftFalls
 pub mod LeftBounds
 pub mod Fixed
+pub mod LeftMarking
