@@ -11,3 +11,4 @@ pub mod LeftFalls
 pub mod LeftBounds
 pub mod Fixed
 pub mod LeftMarking
+pub mod LeftSweeping
