@@ -11,7 +11,7 @@ use lib.ListN.{getD}
 use Rattle.memory.specs.Box.{Box, word-at, address, size-of}
 use Rattle.memory.specs.Collector.{after}
 use Rattle.history.specs.Agreement.{Member}
-use Rattle.history.proofs.Inv.{Scans, Ghosts, Inv, Chain, Laid, listed, Stage, at-rest, finding, scanning, adding, sweeping, reading, clearing, writing, zeroing}
+use Rattle.history.proofs.Inv.{Scans, Ghosts, Inv, Chain, Laid, listed, Unswept, Stage, at-rest, finding, scanning, adding, sweeping, reading, clearing, writing, zeroing}
 use Rattle.history.proofs.Lists.{member-left, member-right}
 use Rattle.history.proofs.Laid.{laid-le, laid-from, laid-to, laid-words}
 
@@ -50,19 +50,22 @@ chain-unique links head (x ∷ xs) (y ∷ ys) f g c d =
 
 -- ---- where the tuples ahead begin
 
-pub base-unswept : (b : Box) (g : Ghosts) → Inv b g → b .state .phase ≤ 3 → g .plan .base ≡ 0
-base-unswept b g v l = by-stage (v .stage)
+pub unswept-stage : (b : Box) (g : Ghosts) → Inv b g → b .state .phase ≤ 3 → Unswept g
+unswept-stage b g v l = by-stage (v .stage)
   where
-    by-stage : Stage b g → g .plan .base ≡ 0
-    by-stage (at-rest p u k n) = u .base-zero
-    by-stage (finding p u m n) = u .base-zero
-    by-stage (scanning p u s c k) = u .base-zero
-    by-stage (adding p u s c t k) = u .base-zero
+    by-stage : Stage b g → Unswept g
+    by-stage (at-rest p u k n) = u
+    by-stage (finding p u m n) = u
+    by-stage (scanning p u s c k) = u
+    by-stage (adding p u s c t k) = u
     by-stage (sweeping p k m w a z hs e) = absurd (omega arith)
     by-stage (reading p m i z) = absurd (omega arith)
     by-stage (clearing p m i z) = absurd (omega arith)
     by-stage (writing p m i z) = absurd (omega arith)
     by-stage (zeroing p k m w a d i z) = absurd (omega arith)
+
+pub base-unswept : (b : Box) (g : Ghosts) → Inv b g → b .state .phase ≤ 3 → g .plan .base ≡ 0
+base-unswept b g v l = unswept-stage b g v l .base-zero
 
 pub base-sweep : (b : Box) (g : Ghosts) → Inv b g → b .state .phase ≡ 4 → g .plan .base ≡ b .state .src
 base-sweep b g v f = by-stage (v .stage)

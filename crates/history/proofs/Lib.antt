@@ -12,3 +12,4 @@ pub mod LeftBounds
 pub mod Fixed
 pub mod LeftMarking
 pub mod LeftSweeping
+pub mod LeftSteps
