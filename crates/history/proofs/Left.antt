@@ -1,16 +1,13 @@
 -- The steps left in a cycle, counted by phase over the tuples ahead and the tuples that wait for a scan; and what the count does
 -- from one box to the next, over what it reads of them. Each law opens the count at the two phases and compares the sums; the rest is
 -- linear arithmetic. Assumes nothing.
-use Prim.Native.Nat.{ℕ, zero, suc, _+_, _*_, _-_, _≤_, _<_}
-use mathlib.Core.Bool.{Bool, true, false}
-use mathlib.Core.List.{List, [], _∷_, _++_}
-use mathlib.Core.Logic.{_≢_}
-use mathlib.Core.Path.{_≡_, refl, sym, ap, _∙_}
+use Prim.Native.Nat.{ℕ, zero, suc, _+_, _*_, _-_}
+use mathlib.Core.List.{List, [], _∷_}
+use mathlib.Core.Path.{_≡_, ap, _∙_}
 use native.Mathlib.Omega.{arith}
 use Rattle.memory.specs.Box.{Box, size-of, marked}
-use Rattle.history.specs.Agreement.{Member, Distinct}
 use Rattle.history.proofs.Inv.{Ghosts}
-use Rattle.history.proofs.Sums.{total, unmarked-total, total-none, total-cons, total-frame, total-add, unmarked-total-le, unmarked-total-frame, unmarked-total-mark}
+use Rattle.history.proofs.Sums.{total, unmarked-total, total-none, total-cons, total-frame, unmarked-total-frame}
 
 -- ---- the count
 

@@ -1,17 +1,15 @@
 -- How many steps are left in a cycle of a grown box: at least one, and at most 8 top + 2. The tuples ahead lie end to end up to top,
 -- and each takes at most 8 steps for each of its words; of marking, a tuple has either to be marked or, once listed, to be scanned,
 -- since the listed tuples are distinct, marked and ahead. Assumes nothing.
-use Prim.Native.Nat.{ℕ, _+_, _*_, _-_, _≤_, _<_}
-use mathlib.Core.Bool.{true, false}
-use mathlib.Core.List.{List, [], _∷_, _++_}
-use mathlib.Core.Path.{_≡_, refl, sym, ap, _∙_, subst}
+use Prim.Native.Nat.{ℕ, _+_, _*_, _≤_}
+use mathlib.Core.List.{List, [], _++_}
+use mathlib.Core.Path.{_≡_, ap}
 use native.Mathlib.Omega.{arith}
-use Rattle.memory.specs.Box.{Box, size-of, marked}
-use Rattle.history.specs.Agreement.{Member, Distinct}
-use Rattle.history.proofs.Inv.{Ghosts, Inv, listed, rooms, Unswept, Scan, Move, Stage, at-rest, finding, scanning, adding, sweeping, reading, clearing, writing, zeroing}
+use Rattle.memory.specs.Box.{Box}
+use Rattle.history.proofs.Inv.{Ghosts, Inv, listed, rooms, Scan, Stage, at-rest, finding, scanning, adding, sweeping, reading, clearing, writing, zeroing}
 use Rattle.history.proofs.Laid.{laid-rooms}
 use Rattle.history.proofs.Sums.{total, unmarked-total, total-none, total-cons, total-append, total-add, total-le, total-rooms, total-marked-members}
-use Rattle.history.proofs.Left.{words-left, marking-left, left, left-rest, left-next, left-scan, left-add, left-sweep, left-read, left-clear, left-write, left-zero}
+use Rattle.history.proofs.Left.{marking-left, left, left-rest, left-next, left-scan, left-add, left-sweep, left-read, left-clear, left-write, left-zero}
 
 -- ---- at least one
 

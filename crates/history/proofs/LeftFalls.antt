@@ -1,17 +1,17 @@
 -- The count of the steps left falls with every transition of the collector that ends no cycle, from box b to box c: over any boxes
 -- and ghosts that are related as the transition says in what the count reads. Each opens the count at the two phases and compares the
 -- sums. Assumes nothing.
-use Prim.Native.Nat.{ℕ, _+_, _*_, _-_, _≤_, _<_}
+use Prim.Native.Nat.{ℕ, _+_, _*_, _≤_, _<_}
 use mathlib.Core.Bool.{true, false}
 use mathlib.Core.List.{List, [], _∷_}
 use mathlib.Core.Logic.{_≢_, _⊎_, inl, inr}
-use mathlib.Core.Path.{_≡_, refl, sym, ap, _∙_}
+use mathlib.Core.Path.{_≡_, sym, ap, _∙_}
 use native.Mathlib.Omega.{arith}
 use Rattle.memory.specs.Box.{Box, size-of, marked}
 use Rattle.history.specs.Agreement.{Member, Distinct}
 use Rattle.history.proofs.Inv.{Ghosts}
-use Rattle.history.proofs.Sums.{total, unmarked-total, total-add, unmarked-total-le, unmarked-total-mark}
-use Rattle.history.proofs.Left.{words-left, marking-left, left, left-rest, left-next, left-scan, left-add, left-sweep, left-read, left-clear, left-write, left-zero, SameSizes, SameMarks, total-same, total-first, total-empty, unmarked-same}
+use Rattle.history.proofs.Sums.{unmarked-total, total-add, unmarked-total-le, unmarked-total-mark}
+use Rattle.history.proofs.Left.{marking-left, left, left-rest, left-next, left-scan, left-add, left-sweep, left-read, left-clear, left-write, left-zero, SameSizes, SameMarks, total-same, total-first, total-empty, unmarked-same}
 
 -- ---- what the count reads, from b and g to c and g′
 

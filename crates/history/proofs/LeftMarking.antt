@@ -1,23 +1,23 @@
 -- The steps left fall with each transition from Rest and of marking, whatever ghosts the invariant holds with after it: the tuples
 -- ahead are those before it, and the lists of tuples that wait for a scan are the chains that the transition leaves. Each is stated
 -- over any box c that has the columns and numbers that the transition leaves. Assumes nothing.
-use Prim.Native.Nat.{ℕ, _+_, _≤_, _<_}
+use Prim.Native.Nat.{ℕ, _≤_, _<_}
 use mathlib.Core.Bool.{Bool, true, false, false≢true}
-use mathlib.Core.List.{List, [], _∷_, _++_}
+use mathlib.Core.List.{List, [], _∷_}
 use mathlib.Core.Logic.{_≢_, _⊎_, inl, inr}
-use mathlib.Core.Path.{_≡_, refl, sym, ap, _∙_, subst}
+use mathlib.Core.Path.{_≡_, sym, ap, _∙_, subst}
 use native.Mathlib.Omega.{arith}
 use lib.ListN.{length, getD, set}
 use lib.Seq.{getD-set-same, getD-set-other}
-use Rattle.memory.specs.Box.{Box, address, size-of, link, marked}
-use Rattle.history.specs.Agreement.{Member, Distinct}
+use Rattle.memory.specs.Box.{Box, size-of, link, marked}
+use Rattle.history.specs.Agreement.{Member}
 use Rattle.history.proofs.Inv.{Ghosts, Inv, Laid, Chain, listed}
-use Rattle.history.proofs.Lists.{parts, member-equal}
+use Rattle.history.proofs.Lists.{parts}
 use Rattle.history.proofs.Chain.{chain-push, chain-set-other, chain-head}
 use Rattle.history.proofs.Laid.{laid-from}
 use Rattle.history.proofs.Left.{left, SameSizes, SameMarks}
 use Rattle.history.proofs.LeftFalls.{SameAhead, SameMarking, SameLists, SamePlace, OneOn, Shaded, falls-rest, falls-takes-next, falls-shades-root, falls-begins-sweep, falls-scans-data, falls-scans-pointer, falls-scan-ends, falls-takes-current, falls-adds-marked, falls-adds-unmarked}
-use Rattle.history.proofs.Fixed.{SameLaid, same-columns, ahead-carried, base-unswept, base-sweep, ahead-entry, nexts-entry, currents-entry, nexts-listed, currents-listed, nexts-fixed, currents-fixed}
+use Rattle.history.proofs.Fixed.{same-columns, ahead-carried, base-unswept, base-sweep, ahead-entry, nexts-entry, currents-entry, nexts-listed, currents-listed, nexts-fixed, currents-fixed}
 
 -- ---- what a transition leaves
 

@@ -2,13 +2,11 @@
 -- tuples ahead are those before it, or all of them but the first, since the transition changes no word that lies behind the tuple
 -- it works on. Each is stated over any box c that has the columns and numbers that the transition leaves. Assumes nothing.
 use Prim.Native.Nat.{ℕ, _+_, _≤_, _<_}
-use mathlib.Core.List.{List, [], _∷_}
-use mathlib.Core.Path.{_≡_, refl, sym, ap, _∙_, subst}
+use mathlib.Core.List.{List, _∷_}
+use mathlib.Core.Path.{_≡_, sym, ap, _∙_, subst}
 use native.Mathlib.Omega.{arith}
-use lib.ListN.{getD}
 use Rattle.memory.specs.Box.{Box, size-of}
 use Rattle.memory.specs.Collector.{after}
-use Rattle.history.specs.Agreement.{Member}
 use Rattle.history.proofs.Inv.{Ghosts, Inv, Laid, Stage, at-rest, finding, scanning, adding, sweeping, reading, clearing, writing, zeroing}
 use Rattle.history.proofs.Laid.{laid-from}
 use Rattle.history.proofs.Left.{left}
