@@ -13,3 +13,4 @@ pub mod Fixed
 pub mod LeftMarking
 pub mod LeftSweeping
 pub mod LeftSteps
+pub mod LeftSame
