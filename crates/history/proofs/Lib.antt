@@ -5,6 +5,15 @@ pub mod Chain
 pub mod Laid
 pub mod Frame
 pub mod Resting
+pub mod Sums
+pub mod Left
+pub mod LeftFalls
+pub mod LeftBounds
+pub mod Fixed
+pub mod LeftMarking
+pub mod LeftSweeping
+pub mod LeftSteps
+pub mod LeftSame
 pub mod View
 pub mod Marking
 pub mod Sweep
