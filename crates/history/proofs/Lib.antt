@@ -15,6 +15,7 @@ pub mod LeftSweeping
 pub mod LeftSteps
 pub mod LeftSame
 pub mod View
+pub mod LeftView
 pub mod Marking
 pub mod Sweep
 pub mod Moving
@@ -34,3 +35,4 @@ pub mod TrackedStep
 pub mod TrackedAsked
 pub mod Census
 pub mod Answers
+pub mod Good

@@ -1,4 +1,3 @@
--- To stand as crates/history/proofs/LeftView.antt, with `pub mod LeftView` in Lib.antt, once the module View is there; proved beside it.
 -- The steps left fall with every step that answers 30, whatever ghosts the invariant holds with after it: each transition of the view
 -- is one of the steps, and those that end a cycle or answer 9 give another answer. Assumes nothing.
 use Prim.Native.Nat.{_<_}
