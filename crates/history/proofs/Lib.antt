@@ -36,3 +36,4 @@ pub mod TrackedAsked
 pub mod Census
 pub mod Answers
 pub mod Good
+pub mod GoodOn
