@@ -37,3 +37,4 @@ pub mod Census
 pub mod Answers
 pub mod Good
 pub mod GoodOn
+pub mod GoodEnd
