@@ -5,4 +5,5 @@ pub mod Chain
 pub mod Laid
 pub mod Frame
 pub mod Resting
+pub mod Marking
 pub mod Asking
