@@ -6,3 +6,4 @@ pub mod Steady
 pub mod Registers
 pub mod NewTuple
 pub mod Grant
+pub mod Writes
