@@ -7,3 +7,4 @@ pub mod Registers
 pub mod NewTuple
 pub mod Grant
 pub mod Writes
+pub mod Store
