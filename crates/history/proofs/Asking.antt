@@ -1,4 +1,5 @@
 -- Requests and the opening: each keeps the invariant.
+pub mod Tests
 pub mod Opening
 pub mod Spots
 pub mod Looked

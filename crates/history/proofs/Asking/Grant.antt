@@ -1,14 +1,13 @@
 -- A held request that is granted: the new tuple is made as for any request, and the hold is dropped, which no tuple or register shows.
 -- Assumes nothing.
-use Prim.Native.Nat.{ℕ, _+_, _≤_, _<_}
+use Prim.Native.Nat.{ℕ, _+_, _≤_}
 use mathlib.Core.Bool.{true}
-use mathlib.Core.Logic.{_≢_, _⊎_, inl, inr}
 use mathlib.Core.Path.{_≡_, sym, ap, _∙_, subst}
 use native.Mathlib.Omega.{arith}
 use Rattle.memory.specs.Box.{Box, Word, handle-of, tag-of, size-of}
 use Rattle.memory.specs.Request.{new-tuple}
 use Rattle.memory.specs.Collector.{unheld, granted}
-use Rattle.history.proofs.Inv.{Plan, Ghosts, Inv, word, Kept}
+use Rattle.history.proofs.Inv.{Plan, Ghosts, Inv, word}
 use Rattle.history.proofs.Frame.{Quiet}
 use Rattle.history.proofs.Asking.Looked.{Room}
 use Rattle.history.proofs.Asking.Registers.{invariant-unheld, unheld-quiet}

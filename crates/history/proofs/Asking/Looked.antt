@@ -2,22 +2,23 @@
 -- tuples are in memory, the free handle is an entry, and the totals stay within M. From the invariant's handles and layout, by
 -- where each word is. Assumes nothing.
 use Prim.Native.Nat.{ℕ, _+_, _≤_, _<_}
-use mathlib.Core.Bool.{Bool, true, false, not, _&&_, _||_, true≢false, false≢true}
-use mathlib.Core.List.{List, []}
-use mathlib.Core.Logic.{_≢_, _⊎_, inl, inr}
+use mathlib.Core.Bool.{Bool, true, false, _&&_, _||_}
+use mathlib.Core.List.{List}
+use mathlib.Core.Logic.{_≢_, inl}
 use mathlib.Core.Path.{_≡_, refl, sym, ap, _∙_, subst}
 use borrow.Author.Tests.{le-leb, lt-ltb, eqb-false, ltb-false}
 use native.Mathlib.Omega.{arith}
 use lib.Dec.{leb, ltb, eqb}
 use Rattle.memory.specs.Limits.{register-count}
 use Rattle.memory.specs.Box.{Box, handle-of, names-tuple, register, size-of, marked, is-entry}
-use Rattle.memory.specs.Place.{Place, copy-place, at, place, in-memory, can-shade}
-use Rattle.memory.specs.Request.{no-room, can-make, collecting}
+use Rattle.memory.specs.Place.{Place, place, in-memory, can-shade}
+use Rattle.memory.specs.Request.{no-room, can-make}
 use Rattle.history.specs.Agreement.{Member}
-use Rattle.history.proofs.Inv.{Ghosts, Inv, all, rooms, marked-rooms, Kept, settled, moving, unswept, surviving}
+use Rattle.history.proofs.Inv.{Ghosts, Inv, all, Kept, settled, moving, unswept, surviving}
 use Rattle.history.proofs.Lists.{among-done, among-mid, among-ahead, among-free, among-member}
 use Rattle.history.proofs.Chain.{chain-head}
 use Rattle.history.proofs.Laid.{laid-rooms, unmarked-room}
+use Rattle.history.proofs.Asking.Tests.{or-left, or-right, or-true}
 use Rattle.history.proofs.Asking.Spots.{Found, in-copy, in-words, find, spot-top, live-top}
 
 -- ---- entries
@@ -77,18 +78,6 @@ live-fits b g v n l = omega (arith, live-top b g v)
 
 -- the tests of a request
 
-or-false-left : (s t : Bool) → (s || t) ≡ false → s ≡ false
-or-false-left true t e = absurd (true≢false e)
-or-false-left false t e = refl
-
-or-false-right : (s t : Bool) → (s || t) ≡ false → t ≡ false
-or-false-right true t e = absurd (true≢false e)
-or-false-right false t e = e
-
-or-true : (t : Bool) → (t || true) ≡ true
-or-true true = refl
-or-true false = refl
-
 pub record Room (n : ℕ) (b : Box) : Type 0 where
   pub some-free : b .state .free ≢ 0
   pub words-fit : b .state .top + n + 1 ≤ b .state .m
@@ -96,7 +85,7 @@ pub record Room (n : ℕ) (b : Box) : Type 0 where
 pub has-room : (n : ℕ) (b : Box) → no-room n b ≡ false → Room n b
 unfolding no-room
 has-room n b e =
-    record { some-free = eqb-false (b .state .free) 0 (or-false-left (eqb (b .state .free) 0) (ltb (b .state .m) (b .state .top + n + 1)) e); words-fit = ltb-false (b .state .m) (b .state .top + n + 1) (or-false-right (eqb (b .state .free) 0) (ltb (b .state .m) (b .state .top + n + 1)) e) }
+    record { some-free = eqb-false (b .state .free) 0 (or-left (eqb (b .state .free) 0) (ltb (b .state .m) (b .state .top + n + 1)) e); words-fit = ltb-false (b .state .m) (b .state .top + n + 1) (or-right (eqb (b .state .free) 0) (ltb (b .state .m) (b .state .top + n + 1)) e) }
 
 -- a new tuple that finds room can be made
 pub room-made : (b : Box) (g : Ghosts) → Inv b g → (n : ℕ) → Room n b → can-make n b ≡ true

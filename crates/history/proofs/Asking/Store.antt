@@ -3,36 +3,28 @@
 -- tuple is marked, and from the sweep on no clause asks for it. Assumes nothing.
 use Prim.Native.Nat.{ℕ, _+_, _≤_, _<_}
 use mathlib.Core.Bool.{Bool, true, false, cond, _&&_, true≢false, false≢true}
-use mathlib.Core.Logic.{_≢_, _⊎_, inl, inr}
-use mathlib.Core.Path.{_≡_, refl, sym, ap, _∙_, subst}
+use mathlib.Core.Path.{_≡_, refl, sym, _∙_, subst}
 use borrow.Author.Tests.{leb-true, le-leb}
 use native.Mathlib.Omega.{arith}
 use native.Mathlib.Decide.{decLe}
 use lib.Dec.{leb}
 use Rattle.memory.specs.Limits.{register-count}
-use Rattle.memory.specs.Box.{Box, Word, handle-of, is-nil, names-tuple, register, size-of, marked, deep, set-deep}
+use Rattle.memory.specs.Box.{Box, Word, handle-of, names-tuple, register, size-of, marked, set-deep}
 use Rattle.memory.specs.Place.{Place, place, write, can-shade, shade}
 use Rattle.memory.specs.Request.{shades, shaded-first, deepened}
 use Rattle.history.specs.Agreement.{Member}
-use Rattle.history.proofs.Inv.{Plan, Scans, Ghosts, Inv, word, Kept, settled, moving, unswept, surviving, Stage}
+use Rattle.history.proofs.Inv.{Plan, Scans, Ghosts, Inv, word, Kept, settled, moving, unswept, surviving}
 use Rattle.history.proofs.Frame.{Quiet}
-use Rattle.history.proofs.Marking.Alike.{Alike, address-alike, with-scans}
+use Rattle.history.proofs.Marking.Alike.{address-alike, with-scans}
 use Rattle.history.proofs.Marking.Shade.{Steady, shade-scans, shade-alike, shade-steady, shade-mark, shade-quiet, shade-inv}
 use Rattle.history.proofs.Marking.Stages.{rests-of, unswept-of, kept-ahead}
+use Rattle.history.proofs.Asking.Tests.{and-left, and-right}
 use Rattle.history.proofs.Asking.Spots.{place-by}
 use Rattle.history.proofs.Asking.Looked.{kept-bounds, ahead-shades}
 use Rattle.history.proofs.Asking.Steady.{steady-kept-from, steady-kept-to}
 use Rattle.history.proofs.Asking.Writes.{Stored, written-inv, written-stored, deepen-inv, deepen-deep, deepen-word, deepen-place, deepen-steady}
 
 -- ---- when it shades
-
-and-left : (s t : Bool) → (s && t) ≡ true → s ≡ true
-and-left true t e = refl
-and-left false t e = absurd (false≢true e)
-
-and-right : (s t : Bool) → (s && t) ≡ true → t ≡ true
-and-right true t e = e
-and-right false t e = absurd (false≢true e)
 
 -- a pointer is stored while a cycle marks
 pub record Shades (w : Word) (b : Box) : Type 0 where
@@ -165,3 +157,10 @@ invariant-store b g v h n k l w f = tested-inv b g v h n k l w f (names-tuple w)
 pub store-stored : (b : Box) (g : Ghosts) → Inv b g → (h n : ℕ) → Kept b (g .plan) h → n < size-of h b → (w : Word) → (names-tuple w ≡ true → Kept b (g .plan) (handle-of w)) → Stored b (g .plan) (store-box w h n b) (g .plan) h n w
 unfolding deepened shaded-first
 store-stored b g v h n k l w f = tested-stored b g v h n k l w f (names-tuple w) (shades w b) refl refl
+
+-- a register is stored, which may name a kept tuple only
+pub register-stores : (b : Box) (g : Ghosts) → Inv b g → (r h n : ℕ) → r < register-count → Kept b (g .plan) h → n < size-of h b → Inv (store-box (register r b) h n b) (stored-ghosts (register r b) b g)
+register-stores b g v r h n u k l = invariant-store b g v h n k l (register r b) (v .contents .roots-kept r u)
+
+pub register-stored : (b : Box) (g : Ghosts) → Inv b g → (r h n : ℕ) → r < register-count → Kept b (g .plan) h → n < size-of h b → Stored b (g .plan) (store-box (register r b) h n b) (g .plan) h n (register r b)
+register-stored b g v r h n u k l = store-stored b g v h n k l (register r b) (v .contents .roots-kept r u)

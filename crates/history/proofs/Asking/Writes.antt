@@ -2,8 +2,7 @@
 -- place; it touches no control word, none from top on and none that the sweep has cleared. So it keeps the invariant where
 -- what it names is kept and, in a marked tuple, marked. Assumes nothing.
 use Prim.Native.Nat.{ℕ, _+_, _≤_, _<_}
-use mathlib.Core.Bool.{Bool, true, false, false≢true}
-use mathlib.Core.List.{List, []}
+use mathlib.Core.Bool.{true, false}
 use mathlib.Core.Logic.{_≢_, _⊎_, inl, inr}
 use mathlib.Core.Path.{_≡_, refl, sym, ap, _∙_, subst}
 use native.Mathlib.Omega.{arith}
@@ -11,12 +10,12 @@ use native.Mathlib.Decide.{ℕ-discrete}
 use lib.ListN.{length-set}
 use lib.Seq.{getD-set-same, getD-set-other}
 use Rattle.memory.specs.Limits.{register-count}
-use Rattle.memory.specs.Box.{Box, Word, data-word, handle-of, names-tuple, word-at, put, register, copy-register, address, size-of, marked, deep, set-deep}
+use Rattle.memory.specs.Box.{Box, Word, data-word, handle-of, names-tuple, word-at, put, register, address, size-of, marked, deep, set-deep}
 use Rattle.memory.specs.Place.{Place, copy-place, at, being-moved, place, read, write}
 use Rattle.history.specs.Agreement.{Member}
 use Rattle.history.proofs.Inv.{Plan, Ghosts, Inv, word, Kept, Shape, Layout, Contents, Zero}
 use Rattle.history.proofs.Laid.{laid-frame, laid-to, laid-bounds, rooms-frame}
-use Rattle.history.proofs.Frame.{SameShape, shape-same, layout-same, zero-same, Quiet, quiet-contents}
+use Rattle.history.proofs.Frame.{shape-same, layout-same, zero-same}
 use Rattle.history.proofs.Asking.Spots.{Spot, done-spot, ahead-spot, same-spot, Found, in-copy, in-words, find, spot-top, spot-uncleared}
 use Rattle.history.proofs.Asking.Steady.{Steady, Rewords, Safe, steady-inv, steady-kept-to, steady-kept-from}
 
