@@ -6,15 +6,16 @@ use mathlib.Core.Bool.{Bool, true, false, _&&_, _||_}
 use mathlib.Core.List.{List}
 use mathlib.Core.Logic.{_≢_, inl}
 use mathlib.Core.Path.{_≡_, refl, sym, ap, _∙_, subst}
-use borrow.Author.Tests.{le-leb, lt-ltb, eqb-false, ltb-false}
+use borrow.Author.Tests.{eq-eqb, le-leb, lt-ltb, eqb-false, ltb-false}
 use native.Mathlib.Omega.{arith}
 use lib.Dec.{leb, ltb, eqb}
+use lib.ListN.{length}
 use Rattle.memory.specs.Limits.{register-count}
-use Rattle.memory.specs.Box.{Box, handle-of, names-tuple, register, size-of, marked, is-entry}
+use Rattle.memory.specs.Box.{Box, handle-of, names-tuple, register, size-of, marked, is-entry, lengths-are, right-sizes, sound}
 use Rattle.memory.specs.Place.{Place, place, in-memory, can-shade}
 use Rattle.memory.specs.Request.{no-room, can-make}
 use Rattle.history.specs.Agreement.{Member}
-use Rattle.history.proofs.Inv.{Ghosts, Inv, all, Kept, settled, moving, unswept, surviving}
+use Rattle.history.proofs.Inv.{Ghosts, Inv, all, Kept, settled, moving, unswept, surviving, Shape, Stage, at-rest, finding, scanning, adding, sweeping, reading, clearing, writing, zeroing}
 use Rattle.history.proofs.Lists.{among-done, among-mid, among-ahead, among-free, among-member}
 use Rattle.history.proofs.Chain.{chain-head}
 use Rattle.history.proofs.Laid.{laid-rooms, unmarked-room}
@@ -119,3 +120,33 @@ ahead-shades b g v h x = both (is-entry h b) (marked h b || leb (b .state .live 
     cases : (t : Bool) → marked h b ≡ t → (marked h b || leb (b .state .live + size-of h b + 1) (b .state .m)) ≡ true
     cases true e = simp e
     cases false e = simp (e, le-leb (b .state .live + size-of h b + 1) (b .state .m) (fits e))
+
+-- ---- what every call tests first
+
+phase-bound : (b : Box) (g : Ghosts) → Stage b g → b .state .phase ≤ 8
+phase-bound b g (at-rest e u l m) = omega arith
+phase-bound b g (finding e u c y) = omega arith
+phase-bound b g (scanning e u s c w) = omega arith
+phase-bound b g (adding e u s c m w) = omega arith
+phase-bound b g (sweeping e u n l a z hs y) = omega arith
+phase-bound b g (reading e m l z) = omega arith
+phase-bound b g (clearing e m l z) = omega arith
+phase-bound b g (writing e m l z) = omega arith
+phase-bound b g (zeroing e u n l a d i z) = omega arith
+
+-- sizes, lengths and phase are right
+pub sound-box : (b : Box) (g : Ghosts) → Inv b g → sound b ≡ true
+unfolding sound right-sizes lengths-are
+sound-box b g v =
+    let s : Shape b = v .shape in
+    simp (
+      s .range,
+      eq-eqb (length (b .words)) (b .state .m) (s .words-length),
+      eq-eqb (length (b .flags)) (b .state .m) (s .flags-length),
+      eq-eqb (length (b .addresses)) (b .state .h) (s .addresses-length),
+      eq-eqb (length (b .sizes)) (b .state .h) (s .sizes-length),
+      eq-eqb (length (b .links)) (b .state .h) (s .links-length),
+      eq-eqb (length (b .marks)) (b .state .h) (s .marks-length),
+      eq-eqb (length (b .deeps)) (b .state .h) (s .deeps-length),
+      le-leb (b .state .phase) 8 (phase-bound b g (v .stage)),
+    )

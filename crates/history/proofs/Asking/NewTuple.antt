@@ -108,6 +108,9 @@ pub record Made (b : Box) (p : Plan) (c : Box) (q : Plan) (r n tag : ℕ) : Type
   pub kept-from : (h : ℕ) → Kept b p h → Kept c q h
   pub made-kept : Kept c q (b .state .free)
   pub was-free : ¬ Kept b p (b .state .free)
+  pub handle-not-nil : b .state .free ≢ 0
+  pub handle-below : b .state .free < b .state .h
+  pub h-same : c .state .h ≡ b .state .h
   pub made-size : size-of (b .state .free) c ≡ n
   pub made-control : word (b .state .free) 0 c ≡ control-word (b .state .free) tag
   pub made-tag : tag-of (word (b .state .free) 0 c) ≡ tag
@@ -394,7 +397,7 @@ module _ (b : Box) (g : Ghosts) (c : Box) (r n tag : ℕ) (v : Inv b g) (d : b .
 
   new-made : Made b (g .plan) c (made-plan (g .plan) (b .state .free)) r n tag
   new-made =
-      record { kept-to = new-kept-to; kept-from = new-kept-from; made-kept = new-kept; was-free = λ k. kept-differs (b .state .free) k refl; made-size = u .size-new; made-control = new-control; made-tag = ap (λ (w : Word). tag-of w) new-control ∙ control-tag (b .state .free) tag t; made-words = λ k x. new-data k; made-deep = u .deep-new; register-made = u .register-new; made-handle = ap (λ (w : Word). handle-of w) (u .register-new) ∙ control-handle (b .state .free) 0 (omega arith); registers-same = u .register-other; sizes-same = λ h k. u .size-other h (kept-differs h k); words-same = new-word-same; deeps-same = λ h k. u .deep-other h (kept-differs h k) }
+      record { kept-to = new-kept-to; kept-from = new-kept-from; made-kept = new-kept; was-free = λ k. kept-differs (b .state .free) k refl; handle-not-nil = d; handle-below = free-bounds b g v d .1; h-same = u .h-same; made-size = u .size-new; made-control = new-control; made-tag = ap (λ (w : Word). tag-of w) new-control ∙ control-tag (b .state .free) tag t; made-words = λ k x. new-data k; made-deep = u .deep-new; register-made = u .register-new; made-handle = ap (λ (w : Word). handle-of w) (u .register-new) ∙ control-handle (b .state .free) 0 (omega arith); registers-same = u .register-other; sizes-same = λ h k. u .size-other h (kept-differs h k); words-same = new-word-same; deeps-same = λ h k. u .deep-other h (kept-differs h k) }
 
 -- ---- GETM carried out, and a grant
 

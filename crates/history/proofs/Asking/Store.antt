@@ -3,6 +3,7 @@
 -- tuple is marked, and from the sweep on no clause asks for it. Assumes nothing.
 use Prim.Native.Nat.{ℕ, _+_, _≤_, _<_}
 use mathlib.Core.Bool.{Bool, true, false, cond, _&&_, true≢false, false≢true}
+use mathlib.Core.Logic.{_⊎_, inl, inr}
 use mathlib.Core.Path.{_≡_, refl, sym, _∙_, subst}
 use borrow.Author.Tests.{leb-true, le-leb}
 use native.Mathlib.Omega.{arith}
@@ -51,9 +52,9 @@ store-shades b g v w f e =
 -- ---- a change after one that leaves registers, sizes and words alone
 
 stored-after : (b : Box) (p : Plan) (c : Box) (q : Plan) (e : Box) (r : Plan) (h n : ℕ) (w : Word) → ((k : ℕ) → Kept c q k → Kept b p k) → ((k : ℕ) → Kept b p k → Kept c q k) → ((x : ℕ) → register x c ≡ register x b)
-    → ((k : ℕ) → Kept b p k → size-of k c ≡ size-of k b) → ((k : ℕ) → Kept b p k → (i : ℕ) → i ≤ size-of k b → word k i c ≡ word k i b) → Stored c q e r h n w → Stored b p e r h n w
-stored-after b p c q e r h n w to from roots sizes words s =
-    record { kept-to = λ k x. to k (s .kept-to k x); kept-from = λ k x. s .kept-from k (from k x); roots-same = λ x. s .roots-same x ∙ roots x; sizes-same = λ k x. s .sizes-same k (from k x) ∙ sizes k x; word-stored = s .word-stored; words-same = λ k x i l d. s .words-same k (from k x) i (subst (λ (z : ℕ). i ≤ z) (sym (sizes k x)) l) d ∙ words k x i l }
+    → c .state .h ≡ b .state .h → ((k : ℕ) → Kept b p k → size-of k c ≡ size-of k b) → ((k : ℕ) → Kept b p k → (i : ℕ) → i ≤ size-of k b → word k i c ≡ word k i b) → Stored c q e r h n w → Stored b p e r h n w
+stored-after b p c q e r h n w to from roots entries sizes words s =
+    record { kept-to = λ k x. to k (s .kept-to k x); kept-from = λ k x. s .kept-from k (from k x); roots-same = λ x. s .roots-same x ∙ roots x; h-same = s .h-same ∙ entries; sizes-same = λ k x. s .sizes-same k (from k x) ∙ sizes k x; word-stored = s .word-stored; words-same = λ k x i l d. s .words-same k (from k x) i (subst (λ (z : ℕ). i ≤ z) (sym (sizes k x)) l) d ∙ words k x i l }
 
 -- ---- a pointer is written into a tuple made deep
 
@@ -70,6 +71,7 @@ deep-write-stored b g v h n k l w =
     (steady-kept-to b (set-deep h true b) (g .plan) (deepen-steady h b))
     (steady-kept-from b (set-deep h true b) (g .plan) (deepen-steady h b))
     (λ x. refl)
+    refl
     (λ j x. refl)
     (λ j x i m. deepen-word h b j i)
     (subst (λ (p : Place). Stored (set-deep h true b) (g .plan) (write p w (set-deep h true b)) (g .plan) h n w) (deepen-place h b h (n + 1))
@@ -117,9 +119,41 @@ module _ (b : Box) (g : Ghosts) (v : Inv b g) (h n : ℕ) (k : Kept b (g .plan) 
 
   shaded-write-stored : Stored b (g .plan) (write (place h (n + 1) b) w (set-deep h true (shade (handle-of w) b))) (g .plan) h n w
   shaded-write-stored =
-      stored-after b (g .plan) (shade (handle-of w) b) (g .plan) (write (place h (n + 1) b) w (set-deep h true (shade (handle-of w) b))) (g .plan) h n w (shaded-quiet .kept-to) (shaded-quiet .kept-from) (shaded-quiet .roots-same) (shaded-quiet .sizes-same) (shaded-quiet .words-same)
+      stored-after b (g .plan) (shade (handle-of w) b) (g .plan) (write (place h (n + 1) b) w (set-deep h true (shade (handle-of w) b))) (g .plan) h n w (shaded-quiet .kept-to) (shaded-quiet .kept-from) (shaded-quiet .roots-same) (shade-alike (handle-of w) b .h-is) (shaded-quiet .sizes-same) (shaded-quiet .words-same)
       (subst (λ (p : Place). Stored (shade (handle-of w) b) (g .plan) (write p w (set-deep h true (shade (handle-of w) b))) (g .plan) h n w) (shade-place (handle-of w) h (n + 1) b)
       (deep-write-stored (shade (handle-of w) b) (with-scans (shade-scans (handle-of w) b (g .scans)) g) shaded-ghosts h n (shaded-quiet .kept-from h k) shaded-fits w))
+
+-- ---- the four cases, each by its own box
+
+module _ (b : Box) (g : Ghosts) (v : Inv b g) (h n : ℕ) (k : Kept b (g .plan) h) (l : n < size-of h b) (w : Word) where
+  -- data or nil
+  pub stores-data : names-tuple w ≡ false → Inv (write (place h (n + 1) b) w b) g
+  stores-data e = written-inv b g v h n k l w (λ m. absurd (false≢true (sym e ∙ m))) (λ p x m. absurd (false≢true (sym e ∙ m)))
+
+  pub data-stored : Stored b (g .plan) (write (place h (n + 1) b) w b) (g .plan) h n w
+  data-stored = written-stored b g v h n k l w
+
+  -- a pointer, in Rest or from the sweep on
+  pub stores-late : Kept b (g .plan) (handle-of w) → (b .state .phase ≡ 0) ⊎ (3 < b .state .phase) → Inv (write (place h (n + 1) b) w (set-deep h true b)) g
+  stores-late t o = deep-write-inv b g v h n k l w t (λ p m. absurd (cases o p m))
+    where
+      cases : (b .state .phase ≡ 0) ⊎ (3 < b .state .phase) → b .state .phase ≤ 3 → marked h b ≡ true → ⊥
+      cases (inl e) p m = true≢false (sym m ∙ rest-unmarked b g v e h k)
+      cases (inr e) p m = omega arith
+
+  -- a pointer to a marked tuple
+  pub stores-marked : Kept b (g .plan) (handle-of w) → marked (handle-of w) b ≡ true → Inv (write (place h (n + 1) b) w (set-deep h true b)) g
+  stores-marked t m = deep-write-inv b g v h n k l w t (λ p x. m)
+
+  pub deep-stored : Stored b (g .plan) (write (place h (n + 1) b) w (set-deep h true b)) (g .plan) h n w
+  deep-stored = deep-write-stored b g v h n k l w
+
+  -- a pointer while a cycle marks, to a tuple shaded first
+  pub stores-shaded : Kept b (g .plan) (handle-of w) → Shades w b → Inv (write (place h (n + 1) b) w (set-deep h true (shade (handle-of w) b))) (with-scans (shade-scans (handle-of w) b (g .scans)) g)
+  stores-shaded = shaded-write-inv b g v h n k l w
+
+  pub shaded-stored : Kept b (g .plan) (handle-of w) → Shades w b → Stored b (g .plan) (write (place h (n + 1) b) w (set-deep h true (shade (handle-of w) b))) (g .plan) h n w
+  shaded-stored = shaded-write-stored b g v h n k l w
 
 -- ---- all cases
 
@@ -139,10 +173,10 @@ abbrev by-tests : Bool → Bool → Word → ℕ → ℕ → Box → Box
 by-tests t s w h n b = write (place h (n + 1) b) w (cond t (set-deep h true (cond s (shade (handle-of w) b) b)) (cond s (shade (handle-of w) b) b))
 
 tested-inv : (b : Box) (g : Ghosts) → Inv b g → (h n : ℕ) → Kept b (g .plan) h → n < size-of h b → (w : Word) → (names-tuple w ≡ true → Kept b (g .plan) (handle-of w)) → (t s : Bool) → names-tuple w ≡ t → shades w b ≡ s → Inv (by-tests t s w h n b) (with-scans (cond s (shade-scans (handle-of w) b (g .scans)) (g .scans)) g)
-tested-inv b g v h n k l w f true true e d = shaded-write-inv b g v h n k l w (f e) (shades-true w b d)
+tested-inv b g v h n k l w f true true e d = stores-shaded b g v h n k l w (f e) (shades-true w b d)
 tested-inv b g v h n k l w f true false e d = deep-write-inv b g v h n k l w (f e) (unshaded-safe b g v h k w e d)
 tested-inv b g v h n k l w f false true e d = absurd (false≢true (sym e ∙ shades-true w b d .names))
-tested-inv b g v h n k l w f false false e d = written-inv b g v h n k l w (λ m. absurd (false≢true (sym e ∙ m))) (λ p x m. absurd (false≢true (sym e ∙ m)))
+tested-inv b g v h n k l w f false false e d = stores-data b g v h n k l w e
 
 tested-stored : (b : Box) (g : Ghosts) → Inv b g → (h n : ℕ) → Kept b (g .plan) h → n < size-of h b → (w : Word) → (names-tuple w ≡ true → Kept b (g .plan) (handle-of w)) → (t s : Bool) → names-tuple w ≡ t → shades w b ≡ s → Stored b (g .plan) (by-tests t s w h n b) (g .plan) h n w
 tested-stored b g v h n k l w f true true e d = shaded-write-stored b g v h n k l w (f e) (shades-true w b d)

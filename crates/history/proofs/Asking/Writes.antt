@@ -150,6 +150,7 @@ pub record Stored (b : Box) (p : Plan) (c : Box) (q : Plan) (h n : ℕ) (w : Wor
   pub kept-to : (k : ℕ) → Kept c q k → Kept b p k
   pub kept-from : (k : ℕ) → Kept b p k → Kept c q k
   pub roots-same : (r : ℕ) → register r c ≡ register r b
+  pub h-same : c .state .h ≡ b .state .h
   pub sizes-same : (k : ℕ) → Kept b p k → size-of k c ≡ size-of k b
   pub word-stored : word h (n + 1) c ≡ w
   pub words-same : (k : ℕ) → Kept b p k → (i : ℕ) → i ≤ size-of k b → (k ≢ h) ⊎ (i ≢ n + 1) → word k i c ≡ word k i b
@@ -201,7 +202,7 @@ module _ (b : Box) (g : Ghosts) (v : Inv b g) (h n : ℕ) (kept : Kept b (g .pla
 
   pub written-stored : Stored b (g .plan) (write (place h (n + 1) b) w b) (g .plan) h n w
   written-stored =
-      record { kept-to = steady-kept-to b (write (place h (n + 1) b) w b) (g .plan) (write-steady (place h (n + 1) b) w b); kept-from = steady-kept-from b (write (place h (n + 1) b) w b) (g .plan) (write-steady (place h (n + 1) b) w b); roots-same = write-register (place h (n + 1) b) w b; sizes-same = λ k x. write-steady (place h (n + 1) b) w b .size-same k; word-stored = written-word; words-same = written-other }
+      record { kept-to = steady-kept-to b (write (place h (n + 1) b) w b) (g .plan) (write-steady (place h (n + 1) b) w b); kept-from = steady-kept-from b (write (place h (n + 1) b) w b) (g .plan) (write-steady (place h (n + 1) b) w b); roots-same = write-register (place h (n + 1) b) w b; h-same = write-steady (place h (n + 1) b) w b .h-same; sizes-same = λ k x. write-steady (place h (n + 1) b) w b .size-same k; word-stored = written-word; words-same = written-other }
 
   written-layout : Layout (write (place h (n + 1) b) w b) (g .plan)
   written-layout =
