@@ -38,3 +38,4 @@ pub mod Answers
 pub mod Good
 pub mod GoodOn
 pub mod GoodEnd
+pub mod GoodAsk

@@ -41,7 +41,7 @@ word-put : (r : ℕ) (w : Word) (h i : ℕ) (b : Box) → word h i (put-register
 unfolding word place being-moved
 word-put r w h i b = read-put r w (place h i b) b
 
-kept-put : (r : ℕ) (w : Word) (b : Box) (p : Plan) (h : ℕ) → Kept (put-register r w b) p h → Kept b p h
+pub kept-put : (r : ℕ) (w : Word) (b : Box) (p : Plan) (h : ℕ) → Kept (put-register r w b) p h → Kept b p h
 kept-put r w b p h (settled x) = settled x
 kept-put r w b p h (moving x) = moving x
 kept-put r w b p h (unswept x l) = unswept x l
