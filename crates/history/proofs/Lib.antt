@@ -39,3 +39,4 @@ pub mod Good
 pub mod GoodOn
 pub mod GoodEnd
 pub mod GoodAsk
+pub mod GoodRequest
