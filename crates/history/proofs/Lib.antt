@@ -22,3 +22,11 @@ pub mod Tracked
 pub mod TrackedStep
 pub mod Census
 pub mod Answers
+pub mod Sums
+pub mod Left
+pub mod LeftFalls
+pub mod LeftBounds
+pub mod Fixed
+pub mod LeftMarking
+pub mod LeftSweeping
+pub mod LeftSteps
