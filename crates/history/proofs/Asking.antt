@@ -5,3 +5,4 @@ pub mod Looked
 pub mod Steady
 pub mod Registers
 pub mod NewTuple
+pub mod Grant
