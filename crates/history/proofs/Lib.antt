@@ -30,3 +30,4 @@ pub mod Fixed
 pub mod LeftMarking
 pub mod LeftSweeping
 pub mod LeftSteps
+pub mod Stepping
