@@ -31,3 +31,5 @@ pub mod LeftMarking
 pub mod LeftSweeping
 pub mod LeftSteps
 pub mod Stepping
+pub mod CycleEnd
+pub mod LeftFixed
