@@ -1,4 +1,5 @@
 -- Requests and the opening: each keeps the invariant.
+pub mod Tests
 pub mod Opening
 pub mod Spots
 pub mod Looked
@@ -6,3 +7,5 @@ pub mod Steady
 pub mod Registers
 pub mod NewTuple
 pub mod Grant
+pub mod Writes
+pub mod Store

@@ -2,22 +2,24 @@
 -- tuples are in memory, the free handle is an entry, and the totals stay within M. From the invariant's handles and layout, by
 -- where each word is. Assumes nothing.
 use Prim.Native.Nat.{ℕ, _+_, _≤_, _<_}
-use mathlib.Core.Bool.{Bool, true, false, not, _&&_, _||_, true≢false, false≢true}
-use mathlib.Core.List.{List, []}
-use mathlib.Core.Logic.{_≢_, _⊎_, inl, inr}
+use mathlib.Core.Bool.{Bool, true, false, _&&_, _||_}
+use mathlib.Core.List.{List}
+use mathlib.Core.Logic.{_≢_, inl}
 use mathlib.Core.Path.{_≡_, refl, sym, ap, _∙_, subst}
-use borrow.Author.Tests.{le-leb, lt-ltb, eqb-false, ltb-false}
+use borrow.Author.Tests.{eq-eqb, le-leb, lt-ltb, eqb-false, ltb-false}
 use native.Mathlib.Omega.{arith}
 use lib.Dec.{leb, ltb, eqb}
+use lib.ListN.{length}
 use Rattle.memory.specs.Limits.{register-count}
-use Rattle.memory.specs.Box.{Box, handle-of, names-tuple, register, size-of, marked, is-entry}
-use Rattle.memory.specs.Place.{Place, copy-place, at, place, in-memory, can-shade}
-use Rattle.memory.specs.Request.{no-room, can-make, collecting}
+use Rattle.memory.specs.Box.{Box, handle-of, names-tuple, register, size-of, marked, is-entry, lengths-are, right-sizes, sound}
+use Rattle.memory.specs.Place.{Place, place, in-memory, can-shade}
+use Rattle.memory.specs.Request.{no-room, can-make}
 use Rattle.history.specs.Agreement.{Member}
-use Rattle.history.proofs.Inv.{Ghosts, Inv, all, rooms, marked-rooms, Kept, settled, moving, unswept, surviving}
+use Rattle.history.proofs.Inv.{Ghosts, Inv, all, Kept, settled, moving, unswept, surviving, Shape, Stage, at-rest, finding, scanning, adding, sweeping, reading, clearing, writing, zeroing}
 use Rattle.history.proofs.Lists.{among-done, among-mid, among-ahead, among-free, among-member}
 use Rattle.history.proofs.Chain.{chain-head}
 use Rattle.history.proofs.Laid.{laid-rooms, unmarked-room}
+use Rattle.history.proofs.Asking.Tests.{or-left, or-right, or-true}
 use Rattle.history.proofs.Asking.Spots.{Found, in-copy, in-words, find, spot-top, live-top}
 
 -- ---- entries
@@ -77,18 +79,6 @@ live-fits b g v n l = omega (arith, live-top b g v)
 
 -- the tests of a request
 
-or-false-left : (s t : Bool) → (s || t) ≡ false → s ≡ false
-or-false-left true t e = absurd (true≢false e)
-or-false-left false t e = refl
-
-or-false-right : (s t : Bool) → (s || t) ≡ false → t ≡ false
-or-false-right true t e = absurd (true≢false e)
-or-false-right false t e = e
-
-or-true : (t : Bool) → (t || true) ≡ true
-or-true true = refl
-or-true false = refl
-
 pub record Room (n : ℕ) (b : Box) : Type 0 where
   pub some-free : b .state .free ≢ 0
   pub words-fit : b .state .top + n + 1 ≤ b .state .m
@@ -96,7 +86,7 @@ pub record Room (n : ℕ) (b : Box) : Type 0 where
 pub has-room : (n : ℕ) (b : Box) → no-room n b ≡ false → Room n b
 unfolding no-room
 has-room n b e =
-    record { some-free = eqb-false (b .state .free) 0 (or-false-left (eqb (b .state .free) 0) (ltb (b .state .m) (b .state .top + n + 1)) e); words-fit = ltb-false (b .state .m) (b .state .top + n + 1) (or-false-right (eqb (b .state .free) 0) (ltb (b .state .m) (b .state .top + n + 1)) e) }
+    record { some-free = eqb-false (b .state .free) 0 (or-left (eqb (b .state .free) 0) (ltb (b .state .m) (b .state .top + n + 1)) e); words-fit = ltb-false (b .state .m) (b .state .top + n + 1) (or-right (eqb (b .state .free) 0) (ltb (b .state .m) (b .state .top + n + 1)) e) }
 
 -- a new tuple that finds room can be made
 pub room-made : (b : Box) (g : Ghosts) → Inv b g → (n : ℕ) → Room n b → can-make n b ≡ true
@@ -130,3 +120,33 @@ ahead-shades b g v h x = both (is-entry h b) (marked h b || leb (b .state .live 
     cases : (t : Bool) → marked h b ≡ t → (marked h b || leb (b .state .live + size-of h b + 1) (b .state .m)) ≡ true
     cases true e = simp e
     cases false e = simp (e, le-leb (b .state .live + size-of h b + 1) (b .state .m) (fits e))
+
+-- ---- what every call tests first
+
+phase-bound : (b : Box) (g : Ghosts) → Stage b g → b .state .phase ≤ 8
+phase-bound b g (at-rest e u l m) = omega arith
+phase-bound b g (finding e u c y) = omega arith
+phase-bound b g (scanning e u s c w) = omega arith
+phase-bound b g (adding e u s c m w) = omega arith
+phase-bound b g (sweeping e u n l a z hs y) = omega arith
+phase-bound b g (reading e m l z) = omega arith
+phase-bound b g (clearing e m l z) = omega arith
+phase-bound b g (writing e m l z) = omega arith
+phase-bound b g (zeroing e u n l a d i z) = omega arith
+
+-- sizes, lengths and phase are right
+pub sound-box : (b : Box) (g : Ghosts) → Inv b g → sound b ≡ true
+unfolding sound right-sizes lengths-are
+sound-box b g v =
+    let s : Shape b = v .shape in
+    simp (
+      s .range,
+      eq-eqb (length (b .words)) (b .state .m) (s .words-length),
+      eq-eqb (length (b .flags)) (b .state .m) (s .flags-length),
+      eq-eqb (length (b .addresses)) (b .state .h) (s .addresses-length),
+      eq-eqb (length (b .sizes)) (b .state .h) (s .sizes-length),
+      eq-eqb (length (b .links)) (b .state .h) (s .links-length),
+      eq-eqb (length (b .marks)) (b .state .h) (s .marks-length),
+      eq-eqb (length (b .deeps)) (b .state .h) (s .deeps-length),
+      le-leb (b .state .phase) 8 (phase-bound b g (v .stage)),
+    )

@@ -1,30 +1,30 @@
 -- A new tuple keeps the invariant, in any phase: the first free handle comes to lie at the end of those ahead, with a control word at
 -- top and words of data 0 behind it, since words from top on are data 0. What the new box has at each handle, address and register
 -- is stated once (`New`), and every group of clauses follows from that. Assumes nothing.
-use Prim.Native.Nat.{ℕ, zero, suc, _+_, _*_, _/_, _%_, _≤_, _<_}
+use Prim.Native.Nat.{ℕ, _+_, _≤_, _<_}
 use mathlib.Core.Bool.{Bool, true, false, not, cond, true≢false, false≢true}
 use mathlib.Core.List.{List, [], _∷_, _++_}
 use mathlib.Core.Logic.{_≢_, _⊎_, inl, inr}
-use mathlib.Core.Path.{_≡_, refl, sym, ap, ap₂, _∙_, subst}
+use mathlib.Core.Path.{_≡_, refl, sym, ap, _∙_, subst}
 use borrow.Author.Tests.{eq-eqb, ne-eqb}
 use native.Mathlib.Omega.{arith}
 use native.Mathlib.Nat.{mul-add-div-right, mul-add-mod-self-right, div-eq-of-lt, mod-eq-of-lt}
 use native.Mathlib.Decide.{ℕ-discrete, decLe}
-use lib.ListN.{length, getD, length-set}
+use lib.ListN.{getD, length-set}
 use lib.Seq.{getD-set-same, getD-set-other}
 use Rattle.memory.specs.Limits.{half-word, register-count}
 use Rattle.memory.specs.Box.{Box, Word, data-word, pointer, control-word, handle-of, tag-of, names-tuple, word-at, register, copy-register, address, size-of, link, marked, deep}
-use Rattle.memory.specs.Place.{Place, copy-place, at, being-moved, place, read}
+use Rattle.memory.specs.Place.{being-moved, place, read}
 use Rattle.memory.specs.Request.{collecting, new-entry, take-room, new-tuple}
 use Rattle.history.specs.Agreement.{Member, Distinct}
 use Rattle.history.specs.Calls.{In16}
-use Rattle.history.proofs.Inv.{Plan, Scans, Ghosts, Inv, all, listed, word, rooms, marked-rooms, Laid, Chain, Control, Kept, settled, moving, unswept, surviving, Shape, Handles, Layout, Contents, Zero, Marks, Unswept, Unlisted, Scan, Move, Stage, at-rest, finding, scanning, adding, sweeping, reading, clearing, writing, zeroing}
-use Rattle.history.proofs.Lists.{member-left, member-right, member-cases, member-differs, perm-free-ahead, perm-trans, perm-equal, Parts}
+use Rattle.history.proofs.Inv.{Plan, Ghosts, Inv, listed, word, rooms, marked-rooms, Laid, Chain, Control, Kept, settled, moving, unswept, surviving, Shape, Handles, Layout, Contents, Zero, Marks, Unswept, Unlisted, Scan, Move, Stage, at-rest, finding, scanning, adding, sweeping, reading, clearing, writing, zeroing}
+use Rattle.history.proofs.Lists.{member-left, member-right, member-cases, member-differs, perm-free-ahead}
 use Rattle.history.proofs.Chain.{chain-head}
-use Rattle.history.proofs.Laid.{laid-le, laid-frame, laid-snoc, laid-to, laid-bounds, rooms-frame, marked-rooms-frame, marked-rooms-append, marked-rooms-marked, marked-rooms-unmarked}
-use Rattle.history.proofs.Frame.{SameShape, shape-same, handles-moved}
-use Rattle.history.proofs.Asking.Spots.{Spot, spot-top, base-top, zeroed-base, place-by, word-by, not-moved, plan-parts}
-use Rattle.history.proofs.Asking.Looked.{kept-listed, free-listed, free-bounds}
+use Rattle.history.proofs.Laid.{laid-frame, laid-snoc, laid-to, laid-bounds, rooms-frame, marked-rooms-frame, marked-rooms-append, marked-rooms-marked, marked-rooms-unmarked}
+use Rattle.history.proofs.Frame.{shape-same, handles-moved}
+use Rattle.history.proofs.Asking.Spots.{spot-top, base-top, zeroed-base, place-by, word-by, not-moved, plan-parts}
+use Rattle.history.proofs.Asking.Looked.{free-listed, free-bounds}
 
 -- ---- the ghosts
 
@@ -108,6 +108,9 @@ pub record Made (b : Box) (p : Plan) (c : Box) (q : Plan) (r n tag : ℕ) : Type
   pub kept-from : (h : ℕ) → Kept b p h → Kept c q h
   pub made-kept : Kept c q (b .state .free)
   pub was-free : ¬ Kept b p (b .state .free)
+  pub handle-not-nil : b .state .free ≢ 0
+  pub handle-below : b .state .free < b .state .h
+  pub h-same : c .state .h ≡ b .state .h
   pub made-size : size-of (b .state .free) c ≡ n
   pub made-control : word (b .state .free) 0 c ≡ control-word (b .state .free) tag
   pub made-tag : tag-of (word (b .state .free) 0 c) ≡ tag
@@ -394,7 +397,7 @@ module _ (b : Box) (g : Ghosts) (c : Box) (r n tag : ℕ) (v : Inv b g) (d : b .
 
   new-made : Made b (g .plan) c (made-plan (g .plan) (b .state .free)) r n tag
   new-made =
-      record { kept-to = new-kept-to; kept-from = new-kept-from; made-kept = new-kept; was-free = λ k. kept-differs (b .state .free) k refl; made-size = u .size-new; made-control = new-control; made-tag = ap (λ (w : Word). tag-of w) new-control ∙ control-tag (b .state .free) tag t; made-words = λ k x. new-data k; made-deep = u .deep-new; register-made = u .register-new; made-handle = ap (λ (w : Word). handle-of w) (u .register-new) ∙ control-handle (b .state .free) 0 (omega arith); registers-same = u .register-other; sizes-same = λ h k. u .size-other h (kept-differs h k); words-same = new-word-same; deeps-same = λ h k. u .deep-other h (kept-differs h k) }
+      record { kept-to = new-kept-to; kept-from = new-kept-from; made-kept = new-kept; was-free = λ k. kept-differs (b .state .free) k refl; handle-not-nil = d; handle-below = free-bounds b g v d .1; h-same = u .h-same; made-size = u .size-new; made-control = new-control; made-tag = ap (λ (w : Word). tag-of w) new-control ∙ control-tag (b .state .free) tag t; made-words = λ k x. new-data k; made-deep = u .deep-new; register-made = u .register-new; made-handle = ap (λ (w : Word). handle-of w) (u .register-new) ∙ control-handle (b .state .free) 0 (omega arith); registers-same = u .register-other; sizes-same = λ h k. u .size-other h (kept-differs h k); words-same = new-word-same; deeps-same = λ h k. u .deep-other h (kept-differs h k) }
 
 -- ---- GETM carried out, and a grant
 

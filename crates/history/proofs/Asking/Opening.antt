@@ -1,20 +1,21 @@
 -- The opened box has the invariant: no tuple is made, and the free list is every handle, in order. The links are the opened ones by
 -- induction on the list of handles; every other clause is about data 0 or about no tuple. Assumes nothing.
 use Prim.Native.Nat.{ℕ, zero, suc, _+_, _-_, _≤_, _<_}
-use mathlib.Core.Bool.{Bool, true, false, _&&_, false≢true}
+use mathlib.Core.Bool.{true, false, _&&_, false≢true}
 use mathlib.Core.List.{List, [], _∷_}
-use mathlib.Core.Logic.{_≢_, _⊎_, inl, inr}
+use mathlib.Core.Logic.{_⊎_, inl, inr}
 use mathlib.Core.Path.{_≡_, refl, sym, ap, _∙_, subst}
 use borrow.Author.Tests.{leb-true, le-leb, lt-ltb, le-ltb}
 use native.Mathlib.Omega.{arith}
 use lib.Dec.{leb}
 use lib.ListN.{length, getD, replicate, length-replicate}
 use Rattle.memory.specs.Limits.{in-range, register-count}
-use Rattle.memory.specs.Box.{Box, Word, data-word, handle-of, names-tuple, word-at, register, marked}
+use Rattle.memory.specs.Box.{Word, data-word, names-tuple, word-at, register}
 use Rattle.memory.specs.Open.{opened, opened-state, opened-link, opened-links}
 use Rattle.history.specs.Agreement.{Member, Distinct}
 use Rattle.history.proofs.Inv.{Chain, Kept, settled, moving, unswept, surviving, Inv, Shape, Handles, Layout, Contents, Zero, Marks, Stage, rooms, marked-rooms}
 use Rattle.history.proofs.Resting.{resting-plan, resting}
+use Rattle.history.proofs.Asking.Tests.{and-left, and-right}
 
 -- ---- n handles from i on
 
@@ -96,14 +97,6 @@ getD-all (suc n) zero a = refl
 getD-all (suc n) (suc i) a = getD-all n i a
 
 -- ---- the limits
-
-and-right : (s t : Bool) → (s && t) ≡ true → t ≡ true
-and-right true t e = e
-and-right false t e = absurd (false≢true e)
-
-and-left : (s t : Bool) → (s && t) ≡ true → s ≡ true
-and-left true t e = refl
-and-left false t e = absurd (false≢true e)
 
 pub record Limits (m h : ℕ) : Type 0 where
   pub least-m : 16 ≤ m

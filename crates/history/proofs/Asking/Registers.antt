@@ -1,10 +1,9 @@
 -- Requests that write a register only, and the hold. A register may take any word whose tuple, if it names one, is kept: only the roots
 -- change, and every other clause reads none of the registers. Each kind is then a word of that sort: data, nil, another register's
 -- word, the same handle with another offset, or a word of a kept tuple. The hold's fields are read by one clause alone. Assumes nothing.
-use Prim.Native.Nat.{ℕ, zero, _+_, _*_, _/_, _≤_, _<_}
-use mathlib.Core.Bool.{Bool, true, false, not, _&&_, false≢true}
-use mathlib.Core.List.{List, []}
-use mathlib.Core.Logic.{_≢_, _⊎_, inl, inr}
+use Prim.Native.Nat.{ℕ, _+_, _<_}
+use mathlib.Core.Bool.{true, false, not, _&&_, false≢true}
+use mathlib.Core.Logic.{_≢_, inl}
 use mathlib.Core.Path.{_≡_, refl, sym, ap, _∙_, subst}
 use native.Mathlib.Omega.{arith}
 use native.Mathlib.Nat.{mul-add-div-right, div-eq-of-lt}
@@ -15,12 +14,12 @@ use lib.Seq.{getD-set-same, getD-set-other}
 use Rattle.memory.specs.Limits.{half-word, register-count}
 use Rattle.memory.specs.Box.{Box, Word, data-word, pointer, handle-of, offset-of, is-nil, names-tuple, register, put-register, size-of, deep}
 use Rattle.memory.specs.Place.{Place, copy-place, at, being-moved, place, read}
-use Rattle.memory.specs.Request.{hold, word-number}
+use Rattle.memory.specs.Request.{hold}
 use Rattle.memory.specs.Collector.{unheld}
 use Rattle.history.specs.Calls.{In16}
-use Rattle.history.proofs.Inv.{Plan, Ghosts, Inv, word, Kept, Shape, Layout, Contents, Zero}
-use Rattle.history.proofs.Frame.{SameShape, shape-same, layout-same, zero-same, Quiet, quiet-contents}
-use Rattle.history.proofs.Asking.Steady.{Steady, Rewords, steady-inv, steady-kept-to, steady-kept-from}
+use Rattle.history.proofs.Inv.{Plan, Ghosts, Inv, word, Kept, Shape, Contents}
+use Rattle.history.proofs.Frame.{shape-same, layout-same, zero-same, Quiet, quiet-contents}
+use Rattle.history.proofs.Asking.Steady.{Steady, steady-inv, steady-kept-to, steady-kept-from}
 
 -- ---- handles and names
 

@@ -1,26 +1,22 @@
 -- Where the words of kept tuples are: each is in the copy register or at an address of memory, and no two are at one place. The settled
 -- lie below low, the part already moved from low on, the part not yet moved from src + index up to base, and those ahead from base
 -- to top; within a region the layout keeps tuples apart. Assumes nothing.
-use Prim.Native.Nat.{ℕ, zero, suc, _+_, _-_, _≤_, _<_}
-use mathlib.Core.Bool.{Bool, true, false, cond, _&&_}
-use mathlib.Core.List.{List, [], _∷_, _++_}
+use Prim.Native.Nat.{ℕ, _+_, _≤_, _<_}
+use mathlib.Core.Bool.{false, cond, _&&_}
+use mathlib.Core.List.{List, [], _∷_}
 use mathlib.Core.Logic.{_≢_, _⊎_, inl, inr}
 use mathlib.Core.Path.{_≡_, refl, sym, ap, _∙_, subst}
 use borrow.Author.Tests.{le-leb, lt-leb, lt-ltb, le-ltb, eq-eqb, ne-eqb}
 use native.Mathlib.Omega.{arith}
 use native.Mathlib.Decide.{ℕ-discrete, decLe, decLt}
 use lib.Dec.{leb, ltb, eqb}
-use Rattle.memory.specs.Box.{Box, Word, word-at, copy-register, address, size-of, marked}
+use Rattle.memory.specs.Box.{Box, word-at, copy-register, address, size-of}
 use Rattle.memory.specs.Place.{Place, copy-place, at, being-moved, place, read}
-use Rattle.history.specs.Agreement.{Member, Distinct}
-use Rattle.history.proofs.Inv.{Plan, Ghosts, Inv, all, word, rooms, marked-rooms, Laid, Kept, settled, moving, unswept, surviving, Handles, Layout, Marks, Move, Stage, at-rest, finding, scanning, adding, sweeping, reading, clearing, writing, zeroing}
-use Rattle.history.proofs.Lists.{Parts, parts, Among, among-done, among-mid, among-ahead, among-member}
+use Rattle.history.specs.Agreement.{Member}
+use Rattle.history.proofs.Inv.{Ghosts, Inv, word, rooms, Laid, Kept, settled, moving, unswept, surviving, Layout, Move, Stage, at-rest, finding, scanning, adding, sweeping, reading, clearing, writing, zeroing}
+use Rattle.history.proofs.Lists.{Parts, parts}
+use Rattle.history.proofs.Asking.Tests.{and-false}
 use Rattle.history.proofs.Laid.{laid-le, laid-rooms, laid-bounds, laid-apart, rooms-one, marked-rooms-le}
-
--- a test that fails makes a conjunction fail
-and-false : (t : Bool) → (t && false) ≡ false
-and-false true = refl
-and-false false = refl
 
 -- ---- the laws of a place
 

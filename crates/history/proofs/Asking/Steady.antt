@@ -2,14 +2,14 @@
 -- tuples, each to one whose target is marked where that matters. Then the marks and the stage hold as before: each clause is
 -- carried over by the equations. Assumes nothing.
 use Prim.Native.Nat.{ℕ, _+_, _≤_, _<_}
-use mathlib.Core.Bool.{Bool, true, false}
+use mathlib.Core.Bool.{true}
 use mathlib.Core.List.{List, [], _∷_, _++_}
-use mathlib.Core.Logic.{_≢_, _⊎_, inl, inr}
+use mathlib.Core.Logic.{_⊎_, inl, inr}
 use mathlib.Core.Path.{_≡_, refl, sym, ap, ap₂, _∙_, subst}
 use native.Mathlib.Omega.{arith}
 use Rattle.memory.specs.Box.{Box, Word, handle-of, names-tuple, address, size-of, marked, deep}
 use Rattle.history.specs.Agreement.{Member}
-use Rattle.history.proofs.Inv.{Plan, Scans, Ghosts, Inv, listed, word, rooms, marked-rooms, Chain, Control, Kept, settled, moving, unswept, surviving, Shape, Handles, Layout, Contents, Zero, Marks, Scan, Move, Stage, at-rest, finding, scanning, adding, sweeping, reading, clearing, writing, zeroing}
+use Rattle.history.proofs.Inv.{Plan, Scans, Ghosts, Inv, listed, word, rooms, marked-rooms, Control, Kept, moving, unswept, Shape, Handles, Layout, Contents, Zero, Marks, Scan, Move, Stage, at-rest, finding, scanning, adding, sweeping, reading, clearing, writing, zeroing}
 use Rattle.history.proofs.Lists.{member-left}
 use Rattle.history.proofs.Laid.{rooms-frame, marked-rooms-frame}
 use Rattle.history.proofs.Frame.{handles-same, kept-same}

@@ -1,0 +1,200 @@
+-- STORE keeps the invariant: what it stores is shaded first while a cycle marks, then the tuple becomes deep, then the word is written.
+-- Each of the three keeps the invariant by itself. A black tuple stays black, since by then its new target is marked; in Rest no
+-- tuple is marked, and from the sweep on no clause asks for it. Assumes nothing.
+use Prim.Native.Nat.{ℕ, _+_, _≤_, _<_}
+use mathlib.Core.Bool.{Bool, true, false, cond, _&&_, true≢false, false≢true}
+use mathlib.Core.Logic.{_⊎_, inl, inr}
+use mathlib.Core.Path.{_≡_, refl, sym, _∙_, subst}
+use borrow.Author.Tests.{leb-true, le-leb}
+use native.Mathlib.Omega.{arith}
+use native.Mathlib.Decide.{decLe}
+use lib.Dec.{leb}
+use Rattle.memory.specs.Limits.{register-count}
+use Rattle.memory.specs.Box.{Box, Word, handle-of, names-tuple, register, size-of, marked, set-deep}
+use Rattle.memory.specs.Place.{Place, place, write, can-shade, shade}
+use Rattle.memory.specs.Request.{shades, shaded-first, deepened}
+use Rattle.history.specs.Agreement.{Member}
+use Rattle.history.proofs.Inv.{Plan, Scans, Ghosts, Inv, word, Kept, settled, moving, unswept, surviving}
+use Rattle.history.proofs.Frame.{Quiet}
+use Rattle.history.proofs.Marking.Alike.{address-alike, with-scans}
+use Rattle.history.proofs.Marking.Shade.{Steady, shade-scans, shade-alike, shade-steady, shade-mark, shade-quiet, shade-inv}
+use Rattle.history.proofs.Marking.Stages.{rests-of, unswept-of, kept-ahead}
+use Rattle.history.proofs.Asking.Tests.{and-left, and-right}
+use Rattle.history.proofs.Asking.Spots.{place-by}
+use Rattle.history.proofs.Asking.Looked.{kept-bounds, ahead-shades}
+use Rattle.history.proofs.Asking.Steady.{steady-kept-from, steady-kept-to}
+use Rattle.history.proofs.Asking.Writes.{Stored, written-inv, written-stored, deepen-inv, deepen-deep, deepen-word, deepen-place, deepen-steady}
+
+-- ---- when it shades
+
+-- a pointer is stored while a cycle marks
+pub record Shades (w : Word) (b : Box) : Type 0 where
+  pub names : names-tuple w ≡ true
+  pub phase-least : 1 ≤ b .state .phase
+  pub phase-most : b .state .phase ≤ 3
+
+pub shades-true : (w : Word) (b : Box) → shades w b ≡ true → Shades w b
+unfolding shades
+shades-true w b e =
+    let f : (names-tuple w && leb 1 (b .state .phase)) ≡ true = and-left (names-tuple w && leb 1 (b .state .phase)) (leb (b .state .phase) 3) e in
+    record { names = and-left (names-tuple w) (leb 1 (b .state .phase)) f; phase-least = leb-true 1 (b .state .phase) (and-right (names-tuple w) (leb 1 (b .state .phase)) f); phase-most = leb-true (b .state .phase) 3 (and-right (names-tuple w && leb 1 (b .state .phase)) (leb (b .state .phase) 3) e) }
+
+shades-then : (w : Word) (b : Box) → Shades w b → shades w b ≡ true
+unfolding shades
+shades-then w b s = simp (s .names, le-leb 1 (b .state .phase) (s .phase-least), le-leb (b .state .phase) 3 (s .phase-most))
+
+-- what a STORE shades can be shaded
+pub store-shades : (b : Box) (g : Ghosts) → Inv b g → (w : Word) → (names-tuple w ≡ true → Kept b (g .plan) (handle-of w)) → shades w b ≡ true → can-shade (handle-of w) b ≡ true
+store-shades b g v w f e =
+    let s : Shades w b = shades-true w b e in
+    ahead-shades b g v (handle-of w) (kept-ahead b g (handle-of w) (unswept-of b g (v .stage) (s .phase-most)) (f (s .names)))
+
+-- ---- a change after one that leaves registers, sizes and words alone
+
+stored-after : (b : Box) (p : Plan) (c : Box) (q : Plan) (e : Box) (r : Plan) (h n : ℕ) (w : Word) → ((k : ℕ) → Kept c q k → Kept b p k) → ((k : ℕ) → Kept b p k → Kept c q k) → ((x : ℕ) → register x c ≡ register x b)
+    → c .state .h ≡ b .state .h → ((k : ℕ) → Kept b p k → size-of k c ≡ size-of k b) → ((k : ℕ) → Kept b p k → (i : ℕ) → i ≤ size-of k b → word k i c ≡ word k i b) → Stored c q e r h n w → Stored b p e r h n w
+stored-after b p c q e r h n w to from roots entries sizes words s =
+    record { kept-to = λ k x. to k (s .kept-to k x); kept-from = λ k x. s .kept-from k (from k x); roots-same = λ x. s .roots-same x ∙ roots x; h-same = s .h-same ∙ entries; sizes-same = λ k x. s .sizes-same k (from k x) ∙ sizes k x; word-stored = s .word-stored; words-same = λ k x i l d. s .words-same k (from k x) i (subst (λ (z : ℕ). i ≤ z) (sym (sizes k x)) l) d ∙ words k x i l }
+
+-- ---- a pointer is written into a tuple made deep
+
+deep-write-inv : (b : Box) (g : Ghosts) → Inv b g → (h n : ℕ) → Kept b (g .plan) h → n < size-of h b → (w : Word) → Kept b (g .plan) (handle-of w) → (b .state .phase ≤ 3 → marked h b ≡ true → marked (handle-of w) b ≡ true) → Inv (write (place h (n + 1) b) w (set-deep h true b)) g
+deep-write-inv b g v h n k l w t f =
+    subst (λ (p : Place). Inv (write p w (set-deep h true b)) g) (deepen-place h b h (n + 1))
+    (written-inv (set-deep h true b) g (deepen-inv b g v h (kept-bounds b g v h k .1)) h n (steady-kept-from b (set-deep h true b) (g .plan) (deepen-steady h b) h k) l w
+    (λ e. (steady-kept-from b (set-deep h true b) (g .plan) (deepen-steady h b) (handle-of w) t, deepen-deep h b (v .shape) (kept-bounds b g v h k .1)))
+    (λ p m e. f p m))
+
+deep-write-stored : (b : Box) (g : Ghosts) → Inv b g → (h n : ℕ) → Kept b (g .plan) h → n < size-of h b → (w : Word) → Stored b (g .plan) (write (place h (n + 1) b) w (set-deep h true b)) (g .plan) h n w
+deep-write-stored b g v h n k l w =
+    stored-after b (g .plan) (set-deep h true b) (g .plan) (write (place h (n + 1) b) w (set-deep h true b)) (g .plan) h n w
+    (steady-kept-to b (set-deep h true b) (g .plan) (deepen-steady h b))
+    (steady-kept-from b (set-deep h true b) (g .plan) (deepen-steady h b))
+    (λ x. refl)
+    refl
+    (λ j x. refl)
+    (λ j x i m. deepen-word h b j i)
+    (subst (λ (p : Place). Stored (set-deep h true b) (g .plan) (write p w (set-deep h true b)) (g .plan) h n w) (deepen-place h b h (n + 1))
+    (written-stored (set-deep h true b) g (deepen-inv b g v h (kept-bounds b g v h k .1)) h n (steady-kept-from b (set-deep h true b) (g .plan) (deepen-steady h b) h k) l w))
+
+-- ---- outside marking: in Rest nothing is marked
+
+rest-unmarked : (b : Box) (g : Ghosts) → Inv b g → b .state .phase ≡ 0 → (h : ℕ) → Kept b (g .plan) h → marked h b ≡ false
+rest-unmarked b g v e h (settled x) = v .marks .done-unmarked h x
+rest-unmarked b g v e h (moving x) = v .marks .mid-unmarked h x
+rest-unmarked b g v e h (unswept x p) = rests-of b g (v .stage) e .unmarked h x
+rest-unmarked b g v e h (surviving x m) = rests-of b g (v .stage) e .unmarked h x
+
+unshaded-safe : (b : Box) (g : Ghosts) → Inv b g → (h : ℕ) → Kept b (g .plan) h → (w : Word) → names-tuple w ≡ true → shades w b ≡ false → b .state .phase ≤ 3 → marked h b ≡ true → marked (handle-of w) b ≡ true
+unshaded-safe b g v h k w n s p m = cases (decLe 1 (b .state .phase))
+  where
+    cases : Dec (1 ≤ b .state .phase) → marked (handle-of w) b ≡ true
+    cases (yes l) = absurd (true≢false (sym (shades-then w b (record { names = n; phase-least = l; phase-most = p })) ∙ s))
+    cases (no l) = absurd (true≢false (sym m ∙ rest-unmarked b g v (omega arith) h k))
+
+-- ---- while a cycle marks: the target is shaded first
+
+shade-place : (t h i : ℕ) (b : Box) → place h i (shade t b) ≡ place h i b
+shade-place t h i b =
+    let s : Steady b (shade t b) = shade-steady t b in
+    place-by h i b (shade t b) (s .phase-is) (s .tuple-is) (s .index-is) (s .dest-is) (address-alike b (shade t b) (shade-alike t b) h)
+
+module _ (b : Box) (g : Ghosts) (v : Inv b g) (h n : ℕ) (k : Kept b (g .plan) h) (l : n < size-of h b) (w : Word) (t : Kept b (g .plan) (handle-of w)) (s : Shades w b) where
+  target-ahead : Member (handle-of w) (g .plan .ahead)
+  target-ahead = kept-ahead b g (handle-of w) (unswept-of b g (v .stage) (s .phase-most)) t
+
+  shaded-quiet : Quiet b (g .plan) (shade (handle-of w) b) (g .plan)
+  shaded-quiet = shade-quiet (handle-of w) b (g .plan) (s .phase-most)
+
+  shaded-ghosts : Inv (shade (handle-of w) b) (with-scans (shade-scans (handle-of w) b (g .scans)) g)
+  shaded-ghosts = shade-inv (handle-of w) b g v target-ahead (s .phase-least) (s .phase-most)
+
+  shaded-fits : n < size-of h (shade (handle-of w) b)
+  shaded-fits = subst (λ (z : ℕ). n < z) (sym (shaded-quiet .sizes-same h k)) l
+
+  shaded-write-inv : Inv (write (place h (n + 1) b) w (set-deep h true (shade (handle-of w) b))) (with-scans (shade-scans (handle-of w) b (g .scans)) g)
+  shaded-write-inv =
+      subst (λ (p : Place). Inv (write p w (set-deep h true (shade (handle-of w) b))) (with-scans (shade-scans (handle-of w) b (g .scans)) g)) (shade-place (handle-of w) h (n + 1) b)
+      (deep-write-inv (shade (handle-of w) b) (with-scans (shade-scans (handle-of w) b (g .scans)) g) shaded-ghosts h n (shaded-quiet .kept-from h k) shaded-fits w (shaded-quiet .kept-from (handle-of w) t) (λ p m. shade-mark (handle-of w) b (v .shape) (kept-bounds b g v (handle-of w) t .1)))
+
+  shaded-write-stored : Stored b (g .plan) (write (place h (n + 1) b) w (set-deep h true (shade (handle-of w) b))) (g .plan) h n w
+  shaded-write-stored =
+      stored-after b (g .plan) (shade (handle-of w) b) (g .plan) (write (place h (n + 1) b) w (set-deep h true (shade (handle-of w) b))) (g .plan) h n w (shaded-quiet .kept-to) (shaded-quiet .kept-from) (shaded-quiet .roots-same) (shade-alike (handle-of w) b .h-is) (shaded-quiet .sizes-same) (shaded-quiet .words-same)
+      (subst (λ (p : Place). Stored (shade (handle-of w) b) (g .plan) (write p w (set-deep h true (shade (handle-of w) b))) (g .plan) h n w) (shade-place (handle-of w) h (n + 1) b)
+      (deep-write-stored (shade (handle-of w) b) (with-scans (shade-scans (handle-of w) b (g .scans)) g) shaded-ghosts h n (shaded-quiet .kept-from h k) shaded-fits w))
+
+-- ---- the four cases, each by its own box
+
+module _ (b : Box) (g : Ghosts) (v : Inv b g) (h n : ℕ) (k : Kept b (g .plan) h) (l : n < size-of h b) (w : Word) where
+  -- data or nil
+  pub stores-data : names-tuple w ≡ false → Inv (write (place h (n + 1) b) w b) g
+  stores-data e = written-inv b g v h n k l w (λ m. absurd (false≢true (sym e ∙ m))) (λ p x m. absurd (false≢true (sym e ∙ m)))
+
+  pub data-stored : Stored b (g .plan) (write (place h (n + 1) b) w b) (g .plan) h n w
+  data-stored = written-stored b g v h n k l w
+
+  -- a pointer, in Rest or from the sweep on
+  pub stores-late : Kept b (g .plan) (handle-of w) → (b .state .phase ≡ 0) ⊎ (3 < b .state .phase) → Inv (write (place h (n + 1) b) w (set-deep h true b)) g
+  stores-late t o = deep-write-inv b g v h n k l w t (λ p m. absurd (cases o p m))
+    where
+      cases : (b .state .phase ≡ 0) ⊎ (3 < b .state .phase) → b .state .phase ≤ 3 → marked h b ≡ true → ⊥
+      cases (inl e) p m = true≢false (sym m ∙ rest-unmarked b g v e h k)
+      cases (inr e) p m = omega arith
+
+  -- a pointer to a marked tuple
+  pub stores-marked : Kept b (g .plan) (handle-of w) → marked (handle-of w) b ≡ true → Inv (write (place h (n + 1) b) w (set-deep h true b)) g
+  stores-marked t m = deep-write-inv b g v h n k l w t (λ p x. m)
+
+  pub deep-stored : Stored b (g .plan) (write (place h (n + 1) b) w (set-deep h true b)) (g .plan) h n w
+  deep-stored = deep-write-stored b g v h n k l w
+
+  -- a pointer while a cycle marks, to a tuple shaded first
+  pub stores-shaded : Kept b (g .plan) (handle-of w) → Shades w b → Inv (write (place h (n + 1) b) w (set-deep h true (shade (handle-of w) b))) (with-scans (shade-scans (handle-of w) b (g .scans)) g)
+  stores-shaded = shaded-write-inv b g v h n k l w
+
+  pub shaded-stored : Kept b (g .plan) (handle-of w) → Shades w b → Stored b (g .plan) (write (place h (n + 1) b) w (set-deep h true (shade (handle-of w) b))) (g .plan) h n w
+  shaded-stored = shaded-write-stored b g v h n k l w
+
+-- ---- all cases
+
+-- those that wait for a scan after it
+unfoldable pub stored-scans : Word → Box → Scans → Scans
+stored-scans w b s = cond (shades w b) (shade-scans (handle-of w) b s) s
+
+abbrev pub stored-ghosts : Word → Box → Ghosts → Ghosts
+stored-ghosts w b g = with-scans (stored-scans w b (g .scans)) g
+
+-- the box that STORE leaves
+abbrev pub store-box : Word → ℕ → ℕ → Box → Box
+store-box w h n b = write (place h (n + 1) b) w (deepened w h (shaded-first w b))
+
+-- by what its two tests are: t, that the word names a tuple, and s, that it shades
+abbrev by-tests : Bool → Bool → Word → ℕ → ℕ → Box → Box
+by-tests t s w h n b = write (place h (n + 1) b) w (cond t (set-deep h true (cond s (shade (handle-of w) b) b)) (cond s (shade (handle-of w) b) b))
+
+tested-inv : (b : Box) (g : Ghosts) → Inv b g → (h n : ℕ) → Kept b (g .plan) h → n < size-of h b → (w : Word) → (names-tuple w ≡ true → Kept b (g .plan) (handle-of w)) → (t s : Bool) → names-tuple w ≡ t → shades w b ≡ s → Inv (by-tests t s w h n b) (with-scans (cond s (shade-scans (handle-of w) b (g .scans)) (g .scans)) g)
+tested-inv b g v h n k l w f true true e d = stores-shaded b g v h n k l w (f e) (shades-true w b d)
+tested-inv b g v h n k l w f true false e d = deep-write-inv b g v h n k l w (f e) (unshaded-safe b g v h k w e d)
+tested-inv b g v h n k l w f false true e d = absurd (false≢true (sym e ∙ shades-true w b d .names))
+tested-inv b g v h n k l w f false false e d = stores-data b g v h n k l w e
+
+tested-stored : (b : Box) (g : Ghosts) → Inv b g → (h n : ℕ) → Kept b (g .plan) h → n < size-of h b → (w : Word) → (names-tuple w ≡ true → Kept b (g .plan) (handle-of w)) → (t s : Bool) → names-tuple w ≡ t → shades w b ≡ s → Stored b (g .plan) (by-tests t s w h n b) (g .plan) h n w
+tested-stored b g v h n k l w f true true e d = shaded-write-stored b g v h n k l w (f e) (shades-true w b d)
+tested-stored b g v h n k l w f true false e d = deep-write-stored b g v h n k l w
+tested-stored b g v h n k l w f false true e d = absurd (false≢true (sym e ∙ shades-true w b d .names))
+tested-stored b g v h n k l w f false false e d = written-stored b g v h n k l w
+
+pub invariant-store : (b : Box) (g : Ghosts) → Inv b g → (h n : ℕ) → Kept b (g .plan) h → n < size-of h b → (w : Word) → (names-tuple w ≡ true → Kept b (g .plan) (handle-of w)) → Inv (store-box w h n b) (stored-ghosts w b g)
+unfolding deepened shaded-first stored-scans
+invariant-store b g v h n k l w f = tested-inv b g v h n k l w f (names-tuple w) (shades w b) refl refl
+
+pub store-stored : (b : Box) (g : Ghosts) → Inv b g → (h n : ℕ) → Kept b (g .plan) h → n < size-of h b → (w : Word) → (names-tuple w ≡ true → Kept b (g .plan) (handle-of w)) → Stored b (g .plan) (store-box w h n b) (g .plan) h n w
+unfolding deepened shaded-first
+store-stored b g v h n k l w f = tested-stored b g v h n k l w f (names-tuple w) (shades w b) refl refl
+
+-- a register is stored, which may name a kept tuple only
+pub register-stores : (b : Box) (g : Ghosts) → Inv b g → (r h n : ℕ) → r < register-count → Kept b (g .plan) h → n < size-of h b → Inv (store-box (register r b) h n b) (stored-ghosts (register r b) b g)
+register-stores b g v r h n u k l = invariant-store b g v h n k l (register r b) (v .contents .roots-kept r u)
+
+pub register-stored : (b : Box) (g : Ghosts) → Inv b g → (r h n : ℕ) → r < register-count → Kept b (g .plan) h → n < size-of h b → Stored b (g .plan) (store-box (register r b) h n b) (g .plan) h n (register r b)
+register-stored b g v r h n u k l = store-stored b g v h n k l (register r b) (v .contents .roots-kept r u)
