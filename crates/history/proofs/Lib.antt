@@ -33,3 +33,4 @@ pub mod LeftSteps
 pub mod Stepping
 pub mod CycleEnd
 pub mod LeftFixed
+pub mod Invariant

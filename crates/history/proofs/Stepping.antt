@@ -7,15 +7,14 @@ use mathlib.Core.List.{List, []}
 use mathlib.Core.Logic.{_≢_, _⊎_, inl}
 use mathlib.Core.Path.{_≡_, refl, sym, _∙_, ap}
 use native.Mathlib.Omega.{arith}
-use borrow.Author.Tests.{lt-ltb, le-ltb, le-leb, eq-eqb}
-use lib.ListN.{length}
-use Rattle.memory.specs.Limits.{register-count, last-phase}
+use borrow.Author.Tests.{lt-ltb, le-ltb}
+use Rattle.memory.specs.Limits.{register-count}
 use Rattle.memory.specs.State.{with-next}
-use Rattle.memory.specs.Box.{Box, reply, handle-of, names-tuple, with-state, word-at, register, marked, deep, lengths-are, right-sizes, sound}
+use Rattle.memory.specs.Box.{Box, reply, handle-of, names-tuple, with-state, word-at, register, marked, deep}
 use Rattle.memory.specs.Place.{list-next, mark-live, shade}
 use Rattle.memory.specs.Collector.{going, to-phase, after, at-rest, end-cycle, scan, begin-sweep, go-on, settle-move, copy-word, write-copy, zero-word, step}
 use Rattle.history.specs.Machine.{History}
-use Rattle.history.proofs.Inv.{Plan, Ghosts, Inv, Kept, Shape, Stage, Unswept}
+use Rattle.history.proofs.Inv.{Plan, Ghosts, Inv, Kept, Unswept}
 use Rattle.history.proofs.Frame.{Next}
 use Rattle.history.proofs.Resting.{resting}
 use Rattle.history.proofs.Relation.{Related}
@@ -29,6 +28,7 @@ use Rattle.history.proofs.Marking.Find.{rests-with, takes-next, shades-
 use Rattle.history.proofs.Marking.Scan.{scans-data, scans-pointer, scan-ends, takes-current, adds-marked, adds-unmarked}
 use Rattle.history.proofs.Marking.Begin.{begins-sweep-onward, ends-empty-inv, ends-empty-calm}
 use Rattle.history.proofs.Marking.Fits.{next-entry, current-entry, root-entry, tuple-entry, root-room, tuple-room, scan-room}
+use Rattle.history.proofs.Asking.Looked.{sound-box}
 use Rattle.history.proofs.Sweep.Swept.{ended-next}
 use Rattle.history.proofs.Sweep.Keep.{keeps, keeps-last}
 use Rattle.history.proofs.Sweep.Start.{starts-move}
@@ -78,31 +78,7 @@ pub data Stepped (b : Box) (g : Ghosts) : Type 0 where
 
 -- ---- never 9
 
-lengths-right : (m h : ℕ) (b : Box) → length (b .words) ≡ m → length (b .flags) ≡ m → length (b .addresses) ≡ h → length (b .sizes) ≡ h → length (b .links) ≡ h → length (b .marks) ≡ h → length (b .deeps) ≡ h
-    → lengths-are m h b ≡ true
-unfolding lengths-are
-lengths-right m h b w f a s l k d =
-    simp (eq-eqb (length (b .words)) m w, eq-eqb (length (b .flags)) m f, eq-eqb (length (b .addresses)) h a, eq-eqb (length (b .sizes)) h s, eq-eqb (length (b .links)) h l, eq-eqb (length (b .marks)) h k, eq-eqb (length (b .deeps)) h d)
-
-phase-most : (b : Box) (g : Ghosts) → Stage b g → b .state .phase ≤ 8
-phase-most b g (Stage.at-rest p u l m) = omega arith
-phase-most b g (Stage.finding p u c y) = omega arith
-phase-most b g (Stage.scanning p u s c y) = omega arith
-phase-most b g (Stage.adding p u s x y z) = omega arith
-phase-most b g (Stage.sweeping p u a c d f hs q) = omega arith
-phase-most b g (Stage.reading p x a c) = omega arith
-phase-most b g (Stage.clearing p x a c) = omega arith
-phase-most b g (Stage.writing p x a c) = omega arith
-phase-most b g (Stage.zeroing p x a c d f h i) = omega arith
-
--- a box with the invariant is sound
-pub invariant-sound : (b : Box) (g : Ghosts) → Inv b g → sound b ≡ true
-unfolding sound right-sizes
-invariant-sound b g v =
-    let s : Shape b = v .shape in
-    simp (s .range, lengths-right (b .state .m) (b .state .h) b (s .words-length) (s .flags-length) (s .addresses-length) (s .sizes-length) (s .links-length) (s .marks-length) (s .deeps-length), le-leb (b .state .phase) last-phase (phase-most b g (v .stage)))
-
--- and no rule looks up, touches or forms anything out of range
+-- no rule looks up, touches or forms anything out of range
 pub never-reason : (b : Box) (g : Ghosts) → Inv b g → Reason b → ⊥
 never-reason b g v (Reason.next-lost p n e) = e (next-entry b g v n)
 never-reason b g v (Reason.root-lost p z r l n e) = e (root-entry b g v (omega arith) r l n)
@@ -383,7 +359,7 @@ pub stepped : (b : Box) (g : Ghosts) → Inv b g → Stepped b g
 stepped b g v = go (view b)
   where
     go : Step b → Stepped b g
-    go (Step.unsound f s) = absurd (true-is-not-false (sym (invariant-sound b g v) ∙ f))
+    go (Step.unsound f s) = absurd (true-is-not-false (sym (sound-box b g v) ∙ f))
     go (Step.nine f r s) = absurd (never-reason b g v r)
     go (Step.rests f p s) = step-rests b g v p s
     go (Step.takes-next f p z e s) = step-takes-next b g v p z s
