@@ -30,7 +30,7 @@ use Rattle.history.proofs.Asking.NewTuple.{made-ghosts, invariant-new-t
 use Rattle.history.proofs.Asking.Store.{stores-data, stores-late, stores-marked, stores-shaded}
 use Rattle.history.proofs.Left.{left}
 use Rattle.history.proofs.LeftBounds.{left-positive, left-bound}
-use Rattle.history.proofs.LeftFixed.{left-fixed}
+use Rattle.history.proofs.LeftView.{step-left}
 use Rattle.history.proofs.Stepping.{Stepped, stepped}
 use Rattle.history.proofs.CycleEnd.{CycleEnd, cycle-end}
 
@@ -74,15 +74,15 @@ step-ended b c g v s = go (cycle-end b c g v)
     go (CycleEnd.ends-dropped h n t e i q) = grown (step b) (unheld (at-rest c)) 8 g (s ∙ e) i
     go (CycleEnd.ends-granted h f t e i q) = grown (step b) (granted (at-rest c)) 32 (made-ghosts g (c .state .free)) (s ∙ e) i
 
--- its answer is 31, 33, 8 or 32
-end-answers : (b : Box) (c : Box) (g : Ghosts) → Inv (at-rest c) g → step b ≡ end-cycle b c → (x : ℕ) → 31 ≢ x → 33 ≢ x → 8 ≢ x → 32 ≢ x → step b .answer ≢ x
-end-answers b c g v s x free held dropped taken = go (cycle-end b c g v)
+-- and its answer: 31, 33, 8 or 32
+end-not-nine : (b : Box) (c : Box) (g : Ghosts) → Inv (at-rest c) g → step b ≡ end-cycle b c → step b .answer ≢ 9
+end-not-nine b c g v s = go (cycle-end b c g v)
   where
-    go : CycleEnd b c g → step b .answer ≢ x
-    go (CycleEnd.ends-free h e) = answers (step b) (at-rest c) 31 x (s ∙ e) free
-    go (CycleEnd.ends-held h n t e) = answers (step b) (at-rest c) 33 x (s ∙ e) held
-    go (CycleEnd.ends-dropped h n t e i q) = answers (step b) (unheld (at-rest c)) 8 x (s ∙ e) dropped
-    go (CycleEnd.ends-granted h f t e i q) = answers (step b) (granted (at-rest c)) 32 x (s ∙ e) taken
+    go : CycleEnd b c g → step b .answer ≢ 9
+    go (CycleEnd.ends-free h e) = answers (step b) (at-rest c) 31 9 (s ∙ e) (omega arith)
+    go (CycleEnd.ends-held h n t e) = answers (step b) (at-rest c) 33 9 (s ∙ e) (omega arith)
+    go (CycleEnd.ends-dropped h n t e i q) = answers (step b) (unheld (at-rest c)) 8 9 (s ∙ e) (omega arith)
+    go (CycleEnd.ends-granted h f t e i q) = answers (step b) (granted (at-rest c)) 32 9 (s ∙ e) (omega arith)
 
 pub invariant-step : (b : Box) (g : Ghosts) → Inv b g → (g′ : Ghosts) × Inv (step b .box) g′
 invariant-step b g v = go (stepped b g v)
@@ -96,7 +96,7 @@ never-nine-step b g v = go (stepped b g v)
   where
     go : Stepped b g → step b .answer ≢ 9
     go (Stepped.goes-on c s n l h t) = answers (step b) c 30 9 s (omega arith)
-    go (Stepped.ends c s n p h e k) = end-answers b c (n .ghosts) (n .inv) s 9 (omega arith) (omega arith) (omega arith) (omega arith)
+    go (Stepped.ends c s n p h e k) = end-not-nine b c (n .ghosts) (n .inv) s
 
 -- ---- a request
 
@@ -176,16 +176,7 @@ words-above-top b g v = v .zero-words .above-top
 -- ---- the steps of a cycle
 
 pub left-falls : (b : Box) (g g′ : Ghosts) → Inv b g → Inv (step b .box) g′ → step b .answer ≡ 30 → left (step b .box) g′ < left b g
-left-falls b g g′ v w a = go (stepped b g v)
-  where
-    go : Stepped b g → left (step b .box) g′ < left b g
-    go (Stepped.goes-on c s n l h t) =
-        let e : step b .box ≡ c = ap (λ (r : Reply). r .box) s in
-        let i : Inv c g′ = subst (λ (x : Box). Inv x g′) e w in
-        let f : left c g′ ≡ left c (n .ghosts) = left-fixed c g′ (n .ghosts) i (n .inv) in
-        let k : left (step b .box) g′ ≡ left c g′ = ap (λ (x : Box). left x g′) e in
-        omega arith
-    go (Stepped.ends c s n p h e k) = absurd (end-answers b c (n .ghosts) (n .inv) s 30 (omega arith) (omega arith) (omega arith) (omega arith) a)
+left-falls b g g′ v w a = step-left b g v a g′ w
 
 -- the first n single steps of b all answer 30
 abbrev pub GoesOn : ℕ → Box → Type 0

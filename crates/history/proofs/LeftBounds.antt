@@ -81,3 +81,7 @@ left-bound b g v = by-stage (v .stage)
     by-stage (clearing p m i z) = omega (arith, left-clear b g p, sweep-bound b g v)
     by-stage (writing p m i z) = omega (arith, left-write b g p, sweep-bound b g v)
     by-stage (zeroing p l m w a d i z) = omega (arith, left-zero b g p, sweep-bound b g v)
+
+-- and so at most 8 M + 2
+pub left-bound-m : (b : Box) (g : Ghosts) → Inv b g → left b g ≤ 8 * b .state .m + 2
+left-bound-m b g v = omega (arith, left-bound b g v, v .layout .top-fits)

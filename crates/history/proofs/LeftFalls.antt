@@ -75,7 +75,7 @@ falls-rest b g c g′ p q s n m =
 
 -- ---- 1
 
-marking-same : (b : Box) (g : Ghosts) (c : Box) (g′ : Ghosts) → SameMarking b g c g′ → SameLists g g′ → marking-left c g′ ≡ marking-left b g
+pub marking-same : (b : Box) (g : Ghosts) (c : Box) (g′ : Ghosts) → SameMarking b g c g′ → SameLists g g′ → marking-left c g′ ≡ marking-left b g
 unfolding marking-left
 marking-same b g c g′ s l =
     omega (

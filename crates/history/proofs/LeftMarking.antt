@@ -51,10 +51,10 @@ pub record ShadedBox (b c : Box) (h : ℕ) : Type 0 where
   pub listing : Listing b c h
   pub current-is : c .state .current ≡ b .state .current
 
-same-sizes : (b c : Box) → SameHeap b c → SameSizes b c
+pub same-sizes : (b c : Box) → SameHeap b c → SameSizes b c
 same-sizes b c s h = ap (λ (l : List ℕ). getD l h 0) (s .sizes-are)
 
-same-marks : (b c : Box) → SameEntries b c → SameMarks b c
+pub same-marks : (b c : Box) → SameEntries b c → SameMarks b c
 same-marks b c s h = ap (λ (l : List Bool). getD l h false) (s .marks-are)
 
 -- ---- the tuples ahead stay
@@ -84,7 +84,7 @@ same-nexts b g c g′ v w e f = nexts-fixed c g′ (g .scans .nexts) w (nexts-en
 same-currents : (b : Box) (g : Ghosts) (c : Box) (g′ : Ghosts) → Inv b g → Inv c g′ → c .links ≡ b .links → c .state .current ≡ b .state .current → g′ .scans .currents ≡ g .scans .currents
 same-currents b g c g′ v w e f = currents-fixed c g′ (g .scans .currents) w (currents-entry b g v) (rw (e, f) (v .marks .currents-chain))
 
-same-lists : (b : Box) (g : Ghosts) (c : Box) (g′ : Ghosts) → Inv b g → Inv c g′ → SameEntries b c → SameHeads b c → SameLists g g′
+pub same-lists : (b : Box) (g : Ghosts) (c : Box) (g′ : Ghosts) → Inv b g → Inv c g′ → SameEntries b c → SameHeads b c → SameLists g g′
 same-lists b g c g′ v w s h = record { nexts = same-nexts b g c g′ v w (s .links-are) (h .next-is); currents = same-currents b g c g′ v w (s .links-are) (h .current-is) }
 
 -- ---- 0

@@ -30,7 +30,8 @@ pub mod Fixed
 pub mod LeftMarking
 pub mod LeftSweeping
 pub mod LeftSteps
+pub mod LeftSame
+pub mod LeftView
 pub mod Stepping
 pub mod CycleEnd
-pub mod LeftFixed
 pub mod Invariant

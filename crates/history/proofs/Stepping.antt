@@ -5,12 +5,12 @@ use Prim.Native.Nat.{ℕ, _+_, _≤_, _<_}
 use mathlib.Core.Bool.{Bool, true, false, _||_}
 use mathlib.Core.List.{List, []}
 use mathlib.Core.Logic.{_≢_, _⊎_, inl}
-use mathlib.Core.Path.{_≡_, refl, sym, _∙_, ap}
+use mathlib.Core.Path.{_≡_, refl, sym, _∙_, ap, subst}
 use native.Mathlib.Omega.{arith}
 use borrow.Author.Tests.{lt-ltb, le-ltb}
 use Rattle.memory.specs.Limits.{register-count}
 use Rattle.memory.specs.State.{with-next}
-use Rattle.memory.specs.Box.{Box, reply, handle-of, names-tuple, with-state, word-at, register, marked, deep}
+use Rattle.memory.specs.Box.{Box, Reply, reply, handle-of, names-tuple, with-state, word-at, register, marked, deep}
 use Rattle.memory.specs.Place.{list-next, mark-live, shade}
 use Rattle.memory.specs.Collector.{going, to-phase, after, at-rest, end-cycle, scan, begin-sweep, go-on, settle-move, copy-word, write-copy, zero-word, step}
 use Rattle.history.specs.Machine.{History}
@@ -42,9 +42,7 @@ use Rattle.history.proofs.Moving.Leaving.{moves-on}
 use Rattle.history.proofs.Moving.Ending.{ends-move}
 use Rattle.history.proofs.Moving.Facts.{read-fits, Finishes, finish-fits, clear-fits, write-fits}
 use Rattle.history.proofs.Left.{left}
-use Rattle.history.proofs.LeftMarking.{left-rests, left-scans-data, left-scans-pointer}
-use Rattle.history.proofs.LeftSweeping.{left-sweeps-on, left-starts-move, left-starts-zero}
-use Rattle.history.proofs.LeftSteps.{fewer-takes-next, fewer-shades-root, fewer-begins-sweep, fewer-scan-ends, fewer-takes-current, fewer-adds-marked, fewer-adds-unmarked, fewer-copies-high, fewer-copies-low, fewer-moves-on, fewer-clears, fewer-writes, fewer-zeroes, fewer-zero-on}
+use Rattle.history.proofs.LeftView.{step-left}
 
 -- ---- the result
 
@@ -104,14 +102,7 @@ never-reason b g v (Reason.zero-past-on p i a n u) = omega (arith, zero-more-fit
 
 -- ---- what is tracked
 
--- a transition of the marking that marks nothing and adds nothing
-marks-none : (b : Box) (g : Ghosts) → Inv b g → (c : Box) (n : Next b g c) → 1 ≤ b .state .phase → b .state .phase ≤ 3 → 1 ≤ c .state .phase → c .state .phase ≤ 2
-    → c .state .begun ≡ b .state .begun → ((h : ℕ) → marked h c ≡ marked h b) → Track b g c (n .ghosts .plan)
-marks-none b g v c n lb ub lc uc e k =
-    tracks (omega arith) (omega arith) e
-    (λ m given number started r t. tracked-marks b g v c (n .ghosts .plan) (n .calm) m number started t ub (omega arith) (λ h x. inl (sym (k h) ∙ x)) (λ x. absurd (omega arith)))
-
--- one that marks only what is spared
+-- a transition of the marking that adds nothing and marks only what is spared
 marks-spared : (b : Box) (g : Ghosts) → Inv b g → (c : Box) (n : Next b g c) → 1 ≤ b .state .phase → b .state .phase ≤ 3 → 1 ≤ c .state .phase → c .state .phase ≤ 2
     → c .state .begun ≡ b .state .begun
     → ((m : History) (given : List ℕ) (number : ℕ → ℕ) (started : History) → Related b (g .plan) m given number → Tracked b (g .plan) m number started
@@ -120,6 +111,11 @@ marks-spared : (b : Box) (g : Ghosts) → Inv b g → (c : Box) (n : Next b g c)
 marks-spared b g v c n lb ub lc uc e k =
     tracks (omega arith) (omega arith) e
     (λ m given number started r t. tracked-marks b g v c (n .ghosts .plan) (n .calm) m number started t ub (omega arith) (k m given number started r t) (λ x. absurd (omega arith)))
+
+-- one that marks nothing
+marks-none : (b : Box) (g : Ghosts) → Inv b g → (c : Box) (n : Next b g c) → 1 ≤ b .state .phase → b .state .phase ≤ 3 → 1 ≤ c .state .phase → c .state .phase ≤ 2
+    → c .state .begun ≡ b .state .begun → ((h : ℕ) → marked h c ≡ marked h b) → Track b g c (n .ghosts .plan)
+marks-none b g v c n lb ub lc uc e k = marks-spared b g v c n lb ub lc uc e (λ m given number started r t h x. inl (sym (k h) ∙ x))
 
 -- a transition of the sweep
 sweeps-track : (b : Box) (g : Ghosts) → Inv b g → (c : Box) (n : Next b g c) → 4 ≤ b .state .phase → 4 ≤ c .state .phase → c .state .begun ≡ b .state .begun → Track b g c (n .ghosts .plan)
@@ -131,6 +127,13 @@ sweeps-track b g v c n lb lc e =
 sweep-spared : (b : Box) (g : Ghosts) → Inv b g → (c : Box) (n : Next b g c) → 4 ≤ b .state .phase → EndsSpared b g c (n .ghosts .plan)
 sweep-spared b g v c n l m given number started r t = ended-spared b g v c (n .ghosts .plan) (n .calm) m number started t l
 
+-- the cycle goes on: the steps left fall by the view
+goes : (b : Box) (g : Ghosts) → Inv b g → (c : Box) → step b ≡ reply c 30 → (n : Next b g c) → SameHold b c → Track b g c (n .ghosts .plan) → Stepped b g
+goes b g v c s n =
+    let same : step b .box ≡ c = ap (λ (r : Reply). r .box) s in
+    let fall : left (step b .box) (n .ghosts) < left b g = step-left b g v (ap (λ (r : Reply). r .answer) s) (n .ghosts) (subst (λ (x : Box). Inv x (n .ghosts)) (sym same) (n .inv)) in
+    goes-on c s n (subst (λ (x : Box). left x (n .ghosts) < left b g) same fall)
+
 -- ---- 0
 
 step-rests : (b : Box) (g : Ghosts) → Inv b g → b .state .phase ≡ 0 → step b ≡ going (rested b) → Stepped b g
@@ -138,7 +141,7 @@ unfolding rested
 step-rests b g v p s =
     let c : Box = rested b in
     let n : Next b g c = onward-next b g c none-wait (rests-with (b .state .held || b .state .begun) b g v p) in
-    goes-on c s n (left-rests b g c (n .ghosts) v (n .inv) p refl (search) refl refl) (search)
+    goes b g v c s n (search)
     (starts p refl (λ h. simp h) (λ m number. tracked-rests b g v c (n .ghosts .plan) (n .calm) m number p refl (λ h. refl)))
 
 -- ---- 1
@@ -149,7 +152,7 @@ unfolding scan
 step-takes-next b g v p z s =
     let c : Box = scan (b .state .next) (with-state (with-next 0 (b .state)) b) in
     let n : Next b g c = takes-next b g v p z in
-    goes-on c s n (fewer-takes-next b g (n .ghosts) v p z (n .inv)) (search) (marks-none b g v c n (omega arith) (omega arith) (omega arith) (omega arith) refl (λ h. refl))
+    goes b g v c s n (search) (marks-none b g v c n (omega arith) (omega arith) (omega arith) (omega arith) refl (λ h. refl))
 
 shade-hold : (h : ℕ) (b : Box) → SameHold b (shade h b) × (shade h b .state .begun ≡ b .state .begun)
 unfolding shade list-next mark-live
@@ -167,7 +170,7 @@ step-shades-root b g v p r l x f s =
     let c : Box = shade h b in
     let n : Next b g c = shades-root b g v p r l x in
     let e : c .state .phase ≡ 1 = shade-steady h b .phase-is ∙ p in
-    goes-on c s n (fewer-shades-root b g (n .ghosts) v p r l x f (n .inv)) (shade-hold h b .0)
+    goes b g v c s n (shade-hold h b .0)
     (marks-spared b g v c n (omega arith) (omega arith) (omega arith) (omega arith) (shade-hold h b .1)
     (λ m given number started q t. shade-marked-only h b (λ (y : ℕ). Spared started (number y)) (root-spared b (g .plan) m given number q (v .contents) started t r l x)))
 
@@ -177,7 +180,7 @@ step-begins-sweep b g v p z roots t s =
     let c : Box = begin-sweep b in
     let o : Onward b g c (g .scans) = begins-sweep-onward b g v p z roots t in
     let u : Unswept g = unswept-stage b g (v .stage) (omega arith) in
-    goes-on c s (record { ghosts = g; inv = o .inv; calm = o .calm }) (fewer-begins-sweep b g g v p (o .inv)) (search)
+    goes b g v c s (record { ghosts = g; inv = o .inv; calm = o .calm }) (search)
     (tracks (omega arith) (omega arith) refl (λ m given number started r x. tracked-sweep b g v c (g .plan) (o .calm) m number started x (omega arith) refl (λ h. refl) (u .no-done) (u .no-mid)))
 
 step-ends-empty : (b : Box) (g : Ghosts) → Inv b g → b .state .phase ≡ 1 → b .state .next ≡ 0 → b .state .top ≡ 0 → step b ≡ end-cycle b b → Stepped b g
@@ -193,7 +196,7 @@ unfolding scanned-data
 step-scans-data b g v p i f s =
     let c : Box = scanned-data b in
     let n : Next b g c = scans-data b g v p i f in
-    goes-on c s n (left-scans-data b g c (n .ghosts) v (n .inv) p p (search) (search) (record { size = refl; index = refl; within = i })) (search)
+    goes b g v c s n (search)
     (marks-none b g v c n (omega arith) (omega arith) (omega arith) (omega arith) refl (λ h. refl))
 
 step-scans-pointer : (b : Box) (g : Ghosts) → Inv b g → b .state .phase ≡ 2 → b .state .index ≤ b .state .size
@@ -202,7 +205,7 @@ unfolding scanned-pointer
 step-scans-pointer b g v p i f s =
     let c : Box = scanned-pointer b in
     let n : Next b g c = scans-pointer b g v p i f in
-    goes-on c s n (left-scans-pointer b g c (n .ghosts) v (n .inv) p refl (search) (search) (record { size = refl; index = refl; within = i })) (search)
+    goes b g v c s n (search)
     (tracks (omega arith) (omega arith) refl
     (λ m given number started r t. tracked-marks b g v c (n .ghosts .plan) (n .calm) m number started t (omega arith) (omega arith) (λ h x. inl x) (λ e. scanned-spared b g m given number started v r t p i f)))
 
@@ -210,14 +213,14 @@ step-scan-ends : (b : Box) (g : Ghosts) → Inv b g → b .state .phase ≡ 2 �
 step-scan-ends b g v p i z s =
     let c : Box = to-phase 1 b in
     let n : Next b g c = scan-ends b g v p i z in
-    goes-on c s n (fewer-scan-ends b g (n .ghosts) v p (n .inv)) (search) (marks-none b g v c n (omega arith) (omega arith) (omega arith) (omega arith) refl (λ h. refl))
+    goes b g v c s n (search) (marks-none b g v c n (omega arith) (omega arith) (omega arith) (omega arith) refl (λ h. refl))
 
 step-takes-current : (b : Box) (g : Ghosts) → Inv b g → b .state .phase ≡ 2 → b .state .size < b .state .index → b .state .current ≢ 0 → step b ≡ going (scan (b .state .current) b) → Stepped b g
 unfolding scan
 step-takes-current b g v p i z s =
     let c : Box = scan (b .state .current) b in
     let n : Next b g c = takes-current b g v p i z in
-    goes-on c s n (fewer-takes-current b g (n .ghosts) v p z (n .inv)) (search) (marks-none b g v c n (omega arith) (omega arith) (omega arith) (omega arith) refl (λ h. refl))
+    goes b g v c s n (search) (marks-none b g v c n (omega arith) (omega arith) (omega arith) (omega arith) refl (λ h. refl))
 
 -- ---- 3
 
@@ -225,7 +228,7 @@ step-adds-marked : (b : Box) (g : Ghosts) → Inv b g → b .state .phase ≡ 3 
 step-adds-marked b g v p t s =
     let c : Box = to-phase 2 b in
     let n : Next b g c = adds-marked b g v p t in
-    goes-on c s n (fewer-adds-marked b g (n .ghosts) v p (n .inv)) (search) (marks-none b g v c n (omega arith) (omega arith) (omega arith) (omega arith) refl (λ h. refl))
+    goes b g v c s n (search) (marks-none b g v c n (omega arith) (omega arith) (omega arith) (omega arith) refl (λ h. refl))
 
 step-adds-unmarked : (b : Box) (g : Ghosts) → Inv b g → b .state .phase ≡ 3 → marked (b .state .tuple) b ≡ false → step b ≡ going (to-phase 2 (shade (b .state .tuple) b)) → Stepped b g
 step-adds-unmarked b g v p f s =
@@ -233,7 +236,7 @@ step-adds-unmarked b g v p f s =
     let c : Box = to-phase 2 (shade h b) in
     let n : Next b g c = adds-unmarked b g v p f in
     let e : SameHold b (shade h b) = shade-hold h b .0 in
-    goes-on c s n (fewer-adds-unmarked b g (n .ghosts) v p f (n .inv))
+    goes b g v c s n
     (record { m-same = e .m-same; h-same = e .h-same; held-same = e .held-same; register-same = e .register-same; size-same = e .size-same; tag-same = e .tag-same })
     (marks-spared b g v c n (omega arith) (omega arith) (omega arith) (omega arith) (shade-hold h b .1)
     (λ m given number started q t. shade-marked-only h b (λ (y : ℕ). Spared started (number y)) (t .adding-spared p)))
@@ -253,28 +256,28 @@ unfolding kept
 step-keeps b g v p t d e s =
     let c : Box = kept b in
     let n : Next b g c = keeps b g v p t d e in
-    goes-on c s n (left-sweeps-on b g c (n .ghosts) v (n .inv) p refl (search) refl) (search) (sweeps-track b g v c n (omega arith) (omega arith) refl)
+    goes b g v c s n (search) (sweeps-track b g v c n (omega arith) (omega arith) refl)
 
 step-starts-move : (b : Box) (g : Ghosts) → Inv b g → b .state .phase ≡ 4 → marked (b .state .tuple) b ≡ true → b .state .src ≢ b .state .dest → step b ≡ going (move-begun b) → Stepped b g
 unfolding move-begun
 step-starts-move b g v p t d s =
     let c : Box = move-begun b in
     let n : Next b g c = starts-move b g v p t d in
-    goes-on c s n (left-starts-move b g c (n .ghosts) v (n .inv) p refl (search) refl refl) (search) (sweeps-track b g v c n (omega arith) (omega arith) refl)
+    goes b g v c s n (search) (sweeps-track b g v c n (omega arith) (omega arith) refl)
 
 step-releases : (b : Box) (g : Ghosts) → Inv b g → b .state .phase ≡ 4 → marked (b .state .tuple) b ≡ false → b .state .src + swept-size b < b .state .live → step b ≡ going (released b) → Stepped b g
 unfolding released
 step-releases b g v p t l s =
     let c : Box = released b in
     let n : Next b g c = releases b g v p t l in
-    goes-on c s n (left-sweeps-on b g c (n .ghosts) v (n .inv) p refl (search) refl) (search) (sweeps-track b g v c n (omega arith) (omega arith) refl)
+    goes b g v c s n (search) (sweeps-track b g v c n (omega arith) (omega arith) refl)
 
 step-starts-zero : (b : Box) (g : Ghosts) → Inv b g → b .state .phase ≡ 4 → marked (b .state .tuple) b ≡ false → b .state .live ≤ b .state .src + swept-size b → step b ≡ going (zero-begun b) → Stepped b g
 unfolding zero-begun
 step-starts-zero b g v p t l s =
     let c : Box = zero-begun b in
     let n : Next b g c = starts-zero b g v p t l in
-    goes-on c s n (left-starts-zero b g c (n .ghosts) v (n .inv) p refl (search) refl refl) (search) (sweeps-track b g v c n (omega arith) (omega arith) refl)
+    goes b g v c s n (search) (sweeps-track b g v c n (omega arith) (omega arith) refl)
 
 -- ---- 5
 
@@ -292,7 +295,7 @@ step-copies-low b g v p i l s =
     let c : Box = copy-word (b .state .src + b .state .index) b in
     let n : Next b g c = copies-low b g v p i l in
     let q : c .state .phase ≡ 7 = simp (lt-ltb (b .state .src + b .state .index) (b .state .live) l) in
-    goes-on c (s ∙ ap going (copied-low b l)) n (fewer-copies-low b g (n .ghosts) v p l (n .inv)) (search) (sweeps-track b g v c n (omega arith) (omega arith) refl)
+    goes b g v c (s ∙ ap going (copied-low b l)) n (search) (sweeps-track b g v c n (omega arith) (omega arith) refl)
 
 step-copies-high : (b : Box) (g : Ghosts) → Inv b g → b .state .phase ≡ 5 → b .state .index ≤ b .state .size → b .state .live ≤ b .state .src + b .state .index → step b ≡ going (copied 6 b) → Stepped b g
 unfolding copy-word
@@ -300,14 +303,14 @@ step-copies-high b g v p i l s =
     let c : Box = copy-word (b .state .src + b .state .index) b in
     let n : Next b g c = copies-high b g v p i l in
     let q : c .state .phase ≡ 6 = simp (le-ltb (b .state .src + b .state .index) (b .state .live) l) in
-    goes-on c (s ∙ ap going (copied-high b l)) n (fewer-copies-high b g (n .ghosts) v p l (n .inv)) (search) (sweeps-track b g v c n (omega arith) (omega arith) refl)
+    goes b g v c (s ∙ ap going (copied-high b l)) n (search) (sweeps-track b g v c n (omega arith) (omega arith) refl)
 
 step-moves-on : (b : Box) (g : Ghosts) → Inv b g → b .state .phase ≡ 5 → b .state .size < b .state .index → after b ≢ b .state .top → step b ≡ going (moved b) → Stepped b g
 unfolding moved go-on settle-move
 step-moves-on b g v p i e s =
     let c : Box = moved b in
     let n : Next b g c = moves-on b g v p i e in
-    goes-on c s n (fewer-moves-on b g (n .ghosts) v p (n .inv)) (search) (sweeps-track b g v c n (omega arith) (omega arith) refl)
+    goes b g v c s n (search) (sweeps-track b g v c n (omega arith) (omega arith) refl)
 
 step-ends-move : (b : Box) (g : Ghosts) → Inv b g → b .state .phase ≡ 5 → b .state .size < b .state .index → after b ≡ b .state .top → step b ≡ end-cycle b (moved-last b) → Stepped b g
 unfolding moved-last settle-move
@@ -322,14 +325,14 @@ unfolding cleared
 step-clears b g v p s =
     let c : Box = cleared b in
     let n : Next b g c = clears b g v p in
-    goes-on c s n (fewer-clears b g (n .ghosts) v p (n .inv)) (search) (sweeps-track b g v c n (omega arith) (omega arith) refl)
+    goes b g v c s n (search) (sweeps-track b g v c n (omega arith) (omega arith) refl)
 
 step-writes : (b : Box) (g : Ghosts) → Inv b g → b .state .phase ≡ 7 → step b ≡ going (write-copy b) → Stepped b g
 unfolding write-copy
 step-writes b g v p s =
     let c : Box = write-copy b in
     let n : Next b g c = writes b g v p in
-    goes-on c s n (fewer-writes b g (n .ghosts) v p (n .inv)) (search) (sweeps-track b g v c n (omega arith) (omega arith) refl)
+    goes b g v c s n (search) (sweeps-track b g v c n (omega arith) (omega arith) refl)
 
 -- ---- 8
 
@@ -338,14 +341,14 @@ unfolding zero-word
 step-zeroes b g v p i s =
     let c : Box = zero-word b in
     let n : Next b g c = zeroes b g v p i in
-    goes-on c s n (fewer-zeroes b g (n .ghosts) v p i (n .inv)) (search) (sweeps-track b g v c n (omega arith) (omega arith) refl)
+    goes b g v c s n (search) (sweeps-track b g v c n (omega arith) (omega arith) refl)
 
 step-zero-on : (b : Box) (g : Ghosts) → Inv b g → b .state .phase ≡ 8 → b .state .size < b .state .index → after b ≢ b .state .top → step b ≡ going (go-on (after b) b) → Stepped b g
 unfolding go-on
 step-zero-on b g v p i e s =
     let c : Box = go-on (after b) b in
     let n : Next b g c = zero-on b g v p i e in
-    goes-on c s n (fewer-zero-on b g (n .ghosts) v p (n .inv)) (search) (sweeps-track b g v c n (omega arith) (omega arith) refl)
+    goes b g v c s n (search) (sweeps-track b g v c n (omega arith) (omega arith) refl)
 
 step-zero-ends : (b : Box) (g : Ghosts) → Inv b g → b .state .phase ≡ 8 → b .state .size < b .state .index → after b ≡ b .state .top → step b ≡ end-cycle b (zeroed-last b) → Stepped b g
 unfolding zeroed-last
