@@ -34,7 +34,7 @@ use Rattle.history.proofs.RelationHeld.{related-dropped, related-grante
 use Rattle.history.proofs.Tracked.{Spared, made-since, Tracked, gone-at-rest}
 use Rattle.history.proofs.Answers.{granted-justly, dropped-justly}
 use Rattle.history.proofs.Good.{UnderWay, Cycling, between, under-way, Held, Waiting, nothing-held, one-held, Past, Good}
-use Rattle.history.proofs.GoodOn.{SameHold}
+use Rattle.history.proofs.Stepping.{SameHold}
 
 -- ---- a new tuple, as the relation wants to know of it
 

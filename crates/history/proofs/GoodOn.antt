@@ -18,24 +18,8 @@ use Rattle.history.proofs.LeftBounds.{left-bound}
 use Rattle.history.proofs.Relation.{Related}
 use Rattle.history.proofs.RelationKept.{related-calm}
 use Rattle.history.proofs.Tracked.{Tracked}
+use Rattle.history.proofs.Stepping.{SameHold, Track, starts, tracks}
 use Rattle.history.proofs.Good.{UnderWay, Cycling, between, under-way, Held, Waiting, nothing-held, one-held, Past, Good}
-
--- what a step of the collector leaves of the sizes and the hold
-pub record SameHold (b c : Box) : Type 0 where
-  pub m-same : c .state .m ≡ b .state .m
-  pub h-same : c .state .h ≡ b .state .h
-  pub held-same : c .state .held ≡ b .state .held
-  pub register-same : c .state .«hold_register» ≡ b .state .«hold_register»
-  pub size-same : c .state .«hold_size» ≡ b .state .«hold_size»
-  pub tag-same : c .state .«hold_tag» ≡ b .state .«hold_tag»
-
--- how the tracking of the cycle goes on
-pub data Track (b : Box) (g : Ghosts) (c : Box) (q : Plan) : Type 0 where
-  -- the Rest step: a cycle begins, and a hold notes it
-  starts : b .state .phase ≡ 0 → c .state .phase ≡ 1 → (b .state .held ≡ true → c .state .begun ≡ true) → ((t : History) (number : ℕ → ℕ) → Tracked c q t number t) → Track b g c q
-  tracks : b .state .phase ≢ 0 → c .state .phase ≢ 0 → c .state .begun ≡ b .state .begun
-      → ((t : History) (given : List ℕ) (number : ℕ → ℕ) (started : History) → Related b (g .plan) t given number → Tracked b (g .plan) t number started → Tracked c q t number started)
-      → Track b g c q
 
 module _ (m h : ℕ) (b : Box) (t : History) (l : Log) (k : Good m h b t l) (c : Box) (n : Next b (k .ghosts) c) (fall : left c (n .ghosts) < left b (k .ghosts)) (s : SameHold b c) where
   -- the cycle

@@ -40,3 +40,7 @@ pub mod GoodOn
 pub mod GoodEnd
 pub mod GoodAsk
 pub mod GoodRequest
+pub mod Stepping
+pub mod CycleEnd
+pub mod Invariant
+pub mod GoodStep
