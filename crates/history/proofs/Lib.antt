@@ -44,3 +44,4 @@ pub mod Stepping
 pub mod CycleEnd
 pub mod Invariant
 pub mod GoodStep
+pub mod Theorem
