@@ -1,11 +1,11 @@
 -- Requests and the opening: each keeps the invariant.
 pub mod Tests
 pub mod Opening
-pub mod Spots
-pub mod Looked
+pub mod Places
+pub mod InRange
 pub mod Steady
 pub mod Registers
 pub mod NewTuple
 pub mod Grant
-pub mod Writes
+pub mod Write
 pub mod Store

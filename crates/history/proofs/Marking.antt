@@ -1,7 +1,8 @@
+-- Phases 0 to 3: each transition of marking keeps the invariant.
 pub mod Stages
 pub mod Alike
 pub mod Shade
-pub mod Find
+pub mod Start
 pub mod Scan
-pub mod Begin
-pub mod Fits
+pub mod Complete
+pub mod InRange

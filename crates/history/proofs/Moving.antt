@@ -1,5 +1,5 @@
--- The moves of phases 5, 6 and 7.
-pub mod Facts
+-- Phases 5, 6 and 7: each transition of a move keeps the invariant.
+pub mod Tuple
 pub mod Within
 pub mod Copying
 pub mod Put

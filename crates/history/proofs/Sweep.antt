@@ -1,8 +1,9 @@
-pub mod Swept
+-- Phases 4 and 8: each transition that keeps, releases or zeroes a tuple keeps the invariant.
+pub mod Stages
 pub mod Tuple
 pub mod Keep
-pub mod Start
+pub mod MoveBegins
 pub mod Release
 pub mod Zeroing
-pub mod Bounds
+pub mod InRange
 pub mod Built

@@ -17,19 +17,19 @@ use Rattle.memory.specs.Open.{opened-state, opened, opening}
 use Rattle.history.specs.Machine.{HWord, History, fresh, datum, register-of, Call, ask, single-step, run-for, feed, grant, with-hold}
 use Rattle.history.specs.Calls.{Pending, Log, empty-log, World, start, log-step, after-request, after-step, after-run, play-call, play, CallInWidth, CallsInWidth}
 use Rattle.history.specs.Demand3.{Every, IfThere, InTime, Demand3, Demand3Claim}
-use Rattle.history.proofs.Inv.{Ghosts, Inv, Kept, settled, moving, unswept, surviving}
-use Rattle.history.proofs.Resting.{resting, resting-plan}
-use Rattle.history.proofs.LeftBounds.{left-positive}
-use Rattle.history.proofs.Left.{left}
+use Rattle.history.proofs.Invariant.Statement.{Ghosts, Inv, Kept, settled, moving, unswept, surviving}
+use Rattle.history.proofs.Invariant.Resting.{resting, resting-plan}
+use Rattle.history.proofs.Left.Bounds.{left-positive}
+use Rattle.history.proofs.Left.Count.{left}
 use Rattle.history.proofs.Asking.Opening.{handles-below}
-use Rattle.history.proofs.Relation.{Match, Related, agree}
-use Rattle.history.proofs.RelationHeld.{registers-fresh}
-use Rattle.history.proofs.Census.{rest-sum}
-use Rattle.history.proofs.Invariant.{opened-by, invariant-open, words-above-top}
-use Rattle.history.proofs.Good.{Cycling, between, Held, Waiting, nothing-held, one-held, Past, Good}
-use Rattle.history.proofs.GoodRequest.{GoodReply, good-request}
-use Rattle.history.proofs.GoodStep as steps
-use Rattle.history.proofs.GoodStep.{After, GoodRun, good-run}
+use Rattle.history.proofs.Relation.Statement.{Match, Related, agree}
+use Rattle.history.proofs.Relation.Hold.{registers-fresh}
+use Rattle.history.proofs.Census.Directory.{rest-sum}
+use Rattle.history.proofs.Invariant.Theorems.{opened-by, invariant-open, words-above-top}
+use Rattle.history.proofs.Good.Statement.{Cycling, between, Held, Waiting, nothing-held, one-held, Past, Good}
+use Rattle.history.proofs.Good.Requests.{GoodReply, good-request}
+use Rattle.history.proofs.Good.Steps as steps
+use Rattle.history.proofs.Good.Steps.{After, GoodRun, good-run}
 
 -- ---- the opening
 

@@ -1,5 +1,5 @@
 -- The views: a step, the end of a cycle and a request as transitions, each with the facts that led there.
-pub mod Fact
+pub mod Tests
 pub mod Step
 pub mod End
 pub mod Request

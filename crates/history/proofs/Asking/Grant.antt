@@ -7,9 +7,9 @@ use native.Mathlib.Omega.{arith}
 use Rattle.memory.specs.Box.{Box, Word, handle-of, tag-of, size-of}
 use Rattle.memory.specs.Request.{new-tuple}
 use Rattle.memory.specs.Collector.{unheld, granted}
-use Rattle.history.proofs.Inv.{Plan, Ghosts, Inv, word}
-use Rattle.history.proofs.Frame.{Quiet}
-use Rattle.history.proofs.Asking.Looked.{Room}
+use Rattle.history.proofs.Invariant.Statement.{Plan, Ghosts, Inv, word}
+use Rattle.history.proofs.Invariant.Frame.{Quiet}
+use Rattle.history.proofs.Asking.InRange.{Room}
 use Rattle.history.proofs.Asking.Registers.{invariant-unheld, unheld-quiet}
 use Rattle.history.proofs.Asking.NewTuple.{made-plan, made-ghosts, Made, invariant-new-tuple, new-tuple-made}
 

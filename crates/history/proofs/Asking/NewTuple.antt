@@ -18,13 +18,13 @@ use Rattle.memory.specs.Place.{being-moved, place, read}
 use Rattle.memory.specs.Request.{collecting, new-entry, take-room, new-tuple}
 use Rattle.history.specs.Agreement.{Member, Distinct}
 use Rattle.history.specs.Calls.{In16}
-use Rattle.history.proofs.Inv.{Plan, Ghosts, Inv, listed, word, rooms, marked-rooms, Laid, Chain, Control, Kept, settled, moving, unswept, surviving, Shape, Handles, Layout, Contents, Zero, Marks, Unswept, Unlisted, Scan, Move, Stage, at-rest, finding, scanning, adding, sweeping, reading, clearing, writing, zeroing}
-use Rattle.history.proofs.Lists.{member-left, member-right, member-cases, member-differs, perm-free-ahead}
-use Rattle.history.proofs.Chain.{chain-head}
-use Rattle.history.proofs.Laid.{laid-frame, laid-snoc, laid-to, laid-bounds, rooms-frame, marked-rooms-frame, marked-rooms-append, marked-rooms-marked, marked-rooms-unmarked}
-use Rattle.history.proofs.Frame.{shape-same, handles-moved}
-use Rattle.history.proofs.Asking.Spots.{spot-top, base-top, zeroed-base, place-by, word-by, not-moved, plan-parts}
-use Rattle.history.proofs.Asking.Looked.{free-listed, free-bounds}
+use Rattle.history.proofs.Invariant.Statement.{Plan, Ghosts, Inv, listed, word, rooms, marked-rooms, Laid, Chain, Control, Kept, settled, moving, unswept, surviving, Shape, Handles, Layout, Contents, Zero, Marks, Unswept, Unlisted, Scan, Move, Stage, at-rest, finding, scanning, adding, sweeping, reading, clearing, writing, zeroing}
+use Rattle.history.proofs.Lists.Handles.{member-left, member-right, member-cases, member-differs, perm-free-ahead}
+use Rattle.history.proofs.Lists.Chain.{chain-head}
+use Rattle.history.proofs.Lists.Laid.{laid-frame, laid-snoc, laid-to, laid-bounds, rooms-frame, marked-rooms-frame, marked-rooms-append, marked-rooms-marked, marked-rooms-unmarked}
+use Rattle.history.proofs.Invariant.Frame.{shape-same, handles-moved}
+use Rattle.history.proofs.Asking.Places.{spot-top, base-top, zeroed-base, place-by, word-by, not-moved, plan-parts}
+use Rattle.history.proofs.Asking.InRange.{free-listed, free-bounds}
 
 -- ---- the ghosts
 

@@ -13,8 +13,8 @@ use Rattle.memory.specs.Limits.{in-range, register-count}
 use Rattle.memory.specs.Box.{Word, data-word, names-tuple, word-at, register}
 use Rattle.memory.specs.Open.{opened, opened-state, opened-link, opened-links}
 use Rattle.history.specs.Agreement.{Member, Distinct}
-use Rattle.history.proofs.Inv.{Chain, Kept, settled, moving, unswept, surviving, Inv, Shape, Handles, Layout, Contents, Zero, Marks, Stage, rooms, marked-rooms}
-use Rattle.history.proofs.Resting.{resting-plan, resting}
+use Rattle.history.proofs.Invariant.Statement.{Chain, Kept, settled, moving, unswept, surviving, Inv, Shape, Handles, Layout, Contents, Zero, Marks, Stage, rooms, marked-rooms}
+use Rattle.history.proofs.Invariant.Resting.{resting-plan, resting}
 use Rattle.history.proofs.Asking.Tests.{and-left, and-right}
 
 -- ---- n handles from i on

@@ -17,8 +17,8 @@ use Rattle.memory.specs.Place.{Place, copy-place, at, being-moved, place, read}
 use Rattle.memory.specs.Request.{hold}
 use Rattle.memory.specs.Collector.{unheld}
 use Rattle.history.specs.Calls.{In16}
-use Rattle.history.proofs.Inv.{Plan, Ghosts, Inv, word, Kept, Shape, Contents}
-use Rattle.history.proofs.Frame.{shape-same, layout-same, zero-same, Quiet, quiet-contents}
+use Rattle.history.proofs.Invariant.Statement.{Plan, Ghosts, Inv, word, Kept, Shape, Contents}
+use Rattle.history.proofs.Invariant.Frame.{shape-same, layout-same, zero-same, Quiet, quiet-contents}
 use Rattle.history.proofs.Asking.Steady.{Steady, steady-inv, steady-kept-to, steady-kept-from}
 
 -- ---- handles and names

@@ -9,10 +9,10 @@ use mathlib.Core.Path.{_≡_, refl, sym, ap, ap₂, _∙_, subst}
 use native.Mathlib.Omega.{arith}
 use Rattle.memory.specs.Box.{Box, Word, handle-of, names-tuple, address, size-of, marked, deep}
 use Rattle.history.specs.Agreement.{Member}
-use Rattle.history.proofs.Inv.{Plan, Scans, Ghosts, Inv, listed, word, rooms, marked-rooms, Control, Kept, moving, unswept, Shape, Handles, Layout, Contents, Zero, Marks, Scan, Move, Stage, at-rest, finding, scanning, adding, sweeping, reading, clearing, writing, zeroing}
-use Rattle.history.proofs.Lists.{member-left}
-use Rattle.history.proofs.Laid.{rooms-frame, marked-rooms-frame}
-use Rattle.history.proofs.Frame.{handles-same, kept-same}
+use Rattle.history.proofs.Invariant.Statement.{Plan, Scans, Ghosts, Inv, listed, word, rooms, marked-rooms, Control, Kept, moving, unswept, Shape, Handles, Layout, Contents, Zero, Marks, Scan, Move, Stage, at-rest, finding, scanning, adding, sweeping, reading, clearing, writing, zeroing}
+use Rattle.history.proofs.Lists.Handles.{member-left}
+use Rattle.history.proofs.Lists.Laid.{rooms-frame, marked-rooms-frame}
+use Rattle.history.proofs.Invariant.Frame.{handles-same, kept-same}
 
 -- what the collector goes by is as it was
 pub record Steady (b c : Box) : Type 0 where

@@ -14,16 +14,16 @@ use Rattle.memory.specs.Box.{Box, Word, handle-of, names-tuple, register, size-
 use Rattle.memory.specs.Place.{Place, place, write, can-shade, shade}
 use Rattle.memory.specs.Request.{shades, shaded-first, deepened}
 use Rattle.history.specs.Agreement.{Member}
-use Rattle.history.proofs.Inv.{Plan, Scans, Ghosts, Inv, word, Kept, settled, moving, unswept, surviving}
-use Rattle.history.proofs.Frame.{Quiet}
+use Rattle.history.proofs.Invariant.Statement.{Plan, Scans, Ghosts, Inv, word, Kept, settled, moving, unswept, surviving}
+use Rattle.history.proofs.Invariant.Frame.{Quiet}
 use Rattle.history.proofs.Marking.Alike.{address-alike, with-scans}
 use Rattle.history.proofs.Marking.Shade.{Steady, shade-scans, shade-alike, shade-steady, shade-mark, shade-quiet, shade-inv}
 use Rattle.history.proofs.Marking.Stages.{rests-of, unswept-of, kept-ahead}
 use Rattle.history.proofs.Asking.Tests.{and-left, and-right}
-use Rattle.history.proofs.Asking.Spots.{place-by}
-use Rattle.history.proofs.Asking.Looked.{kept-bounds, ahead-shades}
+use Rattle.history.proofs.Asking.Places.{place-by}
+use Rattle.history.proofs.Asking.InRange.{kept-bounds, ahead-shades}
 use Rattle.history.proofs.Asking.Steady.{steady-kept-from, steady-kept-to}
-use Rattle.history.proofs.Asking.Writes.{Stored, written-inv, written-stored, deepen-inv, deepen-deep, deepen-word, deepen-place, deepen-steady}
+use Rattle.history.proofs.Asking.Write.{Stored, written-inv, written-stored, deepen-inv, deepen-deep, deepen-word, deepen-place, deepen-steady}
 
 -- ---- when it shades
 

@@ -10,12 +10,12 @@ use lib.ListN.{length, getD}
 use Rattle.memory.specs.declared.state.State.{State}
 use Rattle.memory.specs.Box.{Box, Word, handle-of, names-tuple, with-state, word-at, register, address, size-of, marked, deep}
 use Rattle.history.specs.Agreement.{Member, Distinct}
-use Rattle.history.proofs.Inv.{Plan, Scans, Ghosts, Inv, listed, word, rooms, marked-rooms, Chain, Kept, settled, moving, unswept, surviving, Shape, Handles, Layout, Zero, Marks, Unswept, Stage}
-use Rattle.history.proofs.Words.{word-early}
-use Rattle.history.proofs.Lists.{member?}
+use Rattle.history.proofs.Invariant.Statement.{Plan, Scans, Ghosts, Inv, listed, word, rooms, marked-rooms, Chain, Kept, settled, moving, unswept, surviving, Shape, Handles, Layout, Zero, Marks, Unswept, Stage}
+use Rattle.history.proofs.Invariant.Words.{word-early}
+use Rattle.history.proofs.Lists.Handles.{member?}
 use Rattle.history.proofs.Marking.Stages.{unswept-of}
-use Rattle.history.proofs.Frame.{hold-of, shape-same, handles-same, layout-same, Quiet, quiet-contents, quiet-calm, Calm, Next}
-use Rattle.history.proofs.Laid.{rooms-frame, marked-rooms-frame}
+use Rattle.history.proofs.Invariant.Frame.{hold-of, shape-same, handles-same, layout-same, Quiet, quiet-contents, quiet-calm, Calm, Next}
+use Rattle.history.proofs.Lists.Laid.{rooms-frame, marked-rooms-frame}
 
 pub record Alike (b c : Box) : Type 0 where
   pub words-are : c .words ≡ b .words

@@ -14,11 +14,11 @@ use Rattle.memory.specs.Box.{Box, Word, handle-of, names-tuple, with-state, wor
 use Rattle.memory.specs.Place.{shade}
 use Rattle.memory.specs.Collector.{to-phase, scan}
 use Rattle.history.specs.Agreement.{Member, Distinct}
-use Rattle.history.proofs.Inv.{Scans, Ghosts, Inv, listed, word, Chain, Kept, unswept, Scan, finding, scanning, adding}
-use Rattle.history.proofs.Words.{word-early}
-use Rattle.history.proofs.Lists.{member-left, member-right, perm-shift, perm-sym, perm-distinct, perm-member}
-use Rattle.history.proofs.Chain.{chain-head, chain-empty}
-use Rattle.history.proofs.Frame.{Next}
+use Rattle.history.proofs.Invariant.Statement.{Scans, Ghosts, Inv, listed, word, Chain, Kept, unswept, Scan, finding, scanning, adding}
+use Rattle.history.proofs.Invariant.Words.{word-early}
+use Rattle.history.proofs.Lists.Handles.{member-left, member-right, perm-shift, perm-sym, perm-distinct, perm-member}
+use Rattle.history.proofs.Lists.Chain.{chain-head, chain-empty}
+use Rattle.history.proofs.Invariant.Frame.{Next}
 use Rattle.history.proofs.Marking.Stages.{Scanning, scanning-of, Adding, adding-of, kept-ahead}
 use Rattle.history.proofs.Marking.Alike.{Alike, alike-state, word-alike, Black, Relisted, with-scans, unswept-scans, Onward, onward-next, onward-alike, relists}
 use Rattle.history.proofs.Marking.Shade.{shade-alike, shade-steady, shade-mark, shade-scans, shade-inv, ahead-entry}

@@ -13,11 +13,11 @@ use lib.Seq.{getD-set-same, getD-set-other}
 use Rattle.memory.specs.Box.{Box, Word, handle-of, names-tuple, size-of, marked, deep}
 use Rattle.memory.specs.Place.{list-next, mark-live, shade}
 use Rattle.history.specs.Agreement.{Member, Distinct}
-use Rattle.history.proofs.Inv.{Plan, Scans, Ghosts, Inv, listed, word, marked-rooms, Chain, Kept, unswept, Shape, Handles, Layout, Contents, Zero, Marks, Scan, Stage, at-rest, finding, scanning, adding, sweeping, reading, clearing, writing, zeroing}
-use Rattle.history.proofs.Lists.{member-left, member-right, perm-shift, perm-sym, perm-distinct, perm-member, Parts, parts, among-member, among-ahead}
-use Rattle.history.proofs.Chain.{chain-push, chain-set-other}
-use Rattle.history.proofs.Laid.{rooms-frame, marked-rooms-mark}
-use Rattle.history.proofs.Frame.{Quiet}
+use Rattle.history.proofs.Invariant.Statement.{Plan, Scans, Ghosts, Inv, listed, word, marked-rooms, Chain, Kept, unswept, Shape, Handles, Layout, Contents, Zero, Marks, Scan, Stage, at-rest, finding, scanning, adding, sweeping, reading, clearing, writing, zeroing}
+use Rattle.history.proofs.Lists.Handles.{member-left, member-right, perm-shift, perm-sym, perm-distinct, perm-member, Parts, parts, among-member, among-ahead}
+use Rattle.history.proofs.Lists.Chain.{chain-push, chain-set-other}
+use Rattle.history.proofs.Lists.Laid.{rooms-frame, marked-rooms-mark}
+use Rattle.history.proofs.Invariant.Frame.{Quiet}
 use Rattle.history.proofs.Marking.Alike.{Alike, address-alike, size-alike, deep-alike, word-alike, shape-alike, handles-alike, layout-alike, zero-alike, quiet-alike, Black, black-alike, with-scans, none-wait, unswept-scans, inv-alike}
 
 -- ---- what shading does, by the three cases of its rule

@@ -8,7 +8,7 @@ use mathlib.Core.Path.{_≡_, subst}
 use native.Mathlib.Omega.{arith}
 use Rattle.memory.specs.Box.{Box, handle-of, names-tuple, marked}
 use Rattle.history.specs.Agreement.{Member}
-use Rattle.history.proofs.Inv.{Ghosts, Kept, settled, moving, unswept, surviving, Unswept, Unlisted, Scan, Stage, at-rest, finding, scanning, adding, sweeping, reading, clearing, writing, zeroing, word}
+use Rattle.history.proofs.Invariant.Statement.{Ghosts, Kept, settled, moving, unswept, surviving, Unswept, Unlisted, Scan, Stage, at-rest, finding, scanning, adding, sweeping, reading, clearing, writing, zeroing, word}
 
 -- ---- the stage, by phase
 

@@ -9,10 +9,10 @@ use native.Mathlib.Decide.{ℕ-discrete}
 use native.Mathlib.Omega.{arith}
 use Rattle.memory.specs.Box.{Box, data-word, word-at, put, address}
 use Rattle.memory.specs.Collector.{to-phase}
-use Rattle.history.proofs.Inv.{Ghosts, Inv, Move, Zero, word, writing}
-use Rattle.history.proofs.Words.{word-moved, word-copied, word-unmoved}
-use Rattle.history.proofs.Frame.{Next}
-use Rattle.history.proofs.Moving.Facts.{AtClear, at-clear, Bounds, bounds, Turn, earlier, now, later, turn}
+use Rattle.history.proofs.Invariant.Statement.{Ghosts, Inv, Move, Zero, word, writing}
+use Rattle.history.proofs.Invariant.Words.{word-moved, word-copied, word-unmoved}
+use Rattle.history.proofs.Invariant.Frame.{Next}
+use Rattle.history.proofs.Moving.Tuple.{AtClear, at-clear, Bounds, bounds, Turn, earlier, now, later, turn}
 use Rattle.history.proofs.Moving.Put.{put-same, put-other}
 use Rattle.history.proofs.Moving.Within.{Within, within}
 

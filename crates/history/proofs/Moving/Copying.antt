@@ -7,10 +7,10 @@ use borrow.Author.Tests.{lt-ltb, le-ltb}
 use native.Mathlib.Omega.{arith}
 use Rattle.memory.specs.Box.{Box, word-at}
 use Rattle.memory.specs.Collector.{copy-word}
-use Rattle.history.proofs.Inv.{Ghosts, Inv, Move, Stage, Zero, word, clearing, writing}
-use Rattle.history.proofs.Words.{word-moved, word-copied, word-unmoved, word-unread}
-use Rattle.history.proofs.Frame.{Next}
-use Rattle.history.proofs.Moving.Facts.{AtRead, at-read, Turn, earlier, now, later, turn}
+use Rattle.history.proofs.Invariant.Statement.{Ghosts, Inv, Move, Stage, Zero, word, clearing, writing}
+use Rattle.history.proofs.Invariant.Words.{word-moved, word-copied, word-unmoved, word-unread}
+use Rattle.history.proofs.Invariant.Frame.{Next}
+use Rattle.history.proofs.Moving.Tuple.{AtRead, at-read, Turn, earlier, now, later, turn}
 use Rattle.history.proofs.Moving.Within.{Within, zeroed-to, within}
 
 -- the box after the copy

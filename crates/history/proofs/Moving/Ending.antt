@@ -9,13 +9,13 @@ use Rattle.memory.specs.Box.{Box, data-word, with-state, word-at}
 use Rattle.memory.specs.State.{with-top}
 use Rattle.memory.specs.Collector.{at-rest, settle-move}
 use Rattle.history.specs.Agreement.{Member}
-use Rattle.history.proofs.Inv.{Ghosts, Inv, all, Move, Kept, marked-rooms, settled, moving, unswept, surviving}
-use Rattle.history.proofs.Lists.{Perm, member-left}
-use Rattle.history.proofs.Chain.{chain-none}
-use Rattle.history.proofs.Laid.{laid-none, laid-to}
-use Rattle.history.proofs.Frame.{handles-moved, Quiet, quiet-contents, quiet-calm, Calm, Next}
-use Rattle.history.proofs.Resting.{resting-plan, resting, Finished, finished}
-use Rattle.history.proofs.Moving.Facts.{AtRead, at-read, Bounds, bounds}
+use Rattle.history.proofs.Invariant.Statement.{Ghosts, Inv, all, Move, Kept, marked-rooms, settled, moving, unswept, surviving}
+use Rattle.history.proofs.Lists.Handles.{Perm, member-left}
+use Rattle.history.proofs.Lists.Chain.{chain-none}
+use Rattle.history.proofs.Lists.Laid.{laid-none, laid-to}
+use Rattle.history.proofs.Invariant.Frame.{handles-moved, Quiet, quiet-contents, quiet-calm, Calm, Next}
+use Rattle.history.proofs.Invariant.Resting.{resting-plan, resting, Finished, finished}
+use Rattle.history.proofs.Moving.Tuple.{AtRead, at-read, Bounds, bounds}
 use Rattle.history.proofs.Moving.Settling.{Written, settled-perm, now-settled, was-kept, Settles, settled-now, settles-shape, settles-done, settles-words, settles-unmarked, size-same, mark-same, deep-same, root-same, word-same}
 
 -- the box handed to the end of the cycle

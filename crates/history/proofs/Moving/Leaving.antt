@@ -8,11 +8,11 @@ use mathlib.Core.Path.{_≡_, refl, sym, ap, _∙_}
 use native.Mathlib.Omega.{arith}
 use Rattle.memory.specs.Box.{Box, handle-of, word-at}
 use Rattle.memory.specs.Collector.{after, go-on, settle-move}
-use Rattle.history.proofs.Inv.{Plan, Ghosts, Inv, Kept, Layout, Zero, Marks, Stage, rooms, settled, moving, unswept, surviving, sweeping}
-use Rattle.history.proofs.Lists.{member-left}
-use Rattle.history.proofs.Laid.{Front, laid-front, laid-to, marked-rooms-frame}
-use Rattle.history.proofs.Frame.{handles-moved, Quiet, quiet-contents, quiet-calm, Next}
-use Rattle.history.proofs.Moving.Facts.{AtRead, at-read, Bounds, bounds}
+use Rattle.history.proofs.Invariant.Statement.{Plan, Ghosts, Inv, Kept, Layout, Zero, Marks, Stage, rooms, settled, moving, unswept, surviving, sweeping}
+use Rattle.history.proofs.Lists.Handles.{member-left}
+use Rattle.history.proofs.Lists.Laid.{Front, laid-front, laid-to, marked-rooms-frame}
+use Rattle.history.proofs.Invariant.Frame.{handles-moved, Quiet, quiet-contents, quiet-calm, Next}
+use Rattle.history.proofs.Moving.Tuple.{AtRead, at-read, Bounds, bounds}
 use Rattle.history.proofs.Moving.Settling.{Written, settled-perm, now-settled, was-kept, Settles, settled-now, settles-shape, settles-done, settles-ahead, settles-words, settles-unmarked, size-same, mark-same, deep-same, root-same, word-same}
 
 -- the box that the sweep goes on with

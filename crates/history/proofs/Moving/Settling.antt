@@ -11,12 +11,12 @@ use lib.ListN.{length, getD, set, length-set}
 use lib.Seq.{getD-set-same, getD-set-other}
 use Rattle.memory.specs.Box.{Box, Word, word-at, register, address, size-of, marked, deep}
 use Rattle.history.specs.Agreement.{Member}
-use Rattle.history.proofs.Inv.{Ghosts, Inv, all, Control, Laid, Move, Kept, settled, moving, Shape, word}
-use Rattle.history.proofs.Words.{word-early, word-moved, word-other}
-use Rattle.history.proofs.Lists.{Perm, perm-mid-done, member-cases, member-right}
-use Rattle.history.proofs.Laid.{laid-frame, laid-snoc, laid-to}
-use Rattle.history.proofs.Frame.{hold-of, shape-same}
-use Rattle.history.proofs.Moving.Facts.{Bounds, bounds, Lies, moved, below, above, lies, mid-only, done-other, ahead-other}
+use Rattle.history.proofs.Invariant.Statement.{Ghosts, Inv, all, Control, Laid, Move, Kept, settled, moving, Shape, word}
+use Rattle.history.proofs.Invariant.Words.{word-early, word-moved, word-other}
+use Rattle.history.proofs.Lists.Handles.{Perm, perm-mid-done, member-cases, member-right}
+use Rattle.history.proofs.Lists.Laid.{laid-frame, laid-snoc, laid-to}
+use Rattle.history.proofs.Invariant.Frame.{hold-of, shape-same}
+use Rattle.history.proofs.Moving.Tuple.{Bounds, bounds, Lies, moved, below, above, lies, mid-only, done-other, ahead-other}
 
 -- the facts of the transition: every word is written
 pub record Written (b : Box) (g : Ghosts) : Type 0 where

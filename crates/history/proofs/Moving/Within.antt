@@ -11,11 +11,11 @@ use native.Mathlib.Omega.{arith}
 use lib.ListN.{length, getD}
 use Rattle.memory.specs.Box.{Box, Word, word-at, register, address, size-of, marked, deep}
 use Rattle.history.specs.Agreement.{Member}
-use Rattle.history.proofs.Inv.{Ghosts, Inv, Control, Move, Kept, Zero, Layout, Stage, word}
-use Rattle.history.proofs.Words.{word-other}
-use Rattle.history.proofs.Laid.{laid-frame, laid-to, rooms-frame}
-use Rattle.history.proofs.Frame.{hold-of, SameShape, shape-same, handles-same, marks-same, kept-same, Quiet, quiet-contents, quiet-calm, Next}
-use Rattle.history.proofs.Moving.Facts.{Lies, moved, below, above, lies, done-below, ahead-above}
+use Rattle.history.proofs.Invariant.Statement.{Ghosts, Inv, Control, Move, Kept, Zero, Layout, Stage, word}
+use Rattle.history.proofs.Invariant.Words.{word-other}
+use Rattle.history.proofs.Lists.Laid.{laid-frame, laid-to, rooms-frame}
+use Rattle.history.proofs.Invariant.Frame.{hold-of, SameShape, shape-same, handles-same, marks-same, kept-same, Quiet, quiet-contents, quiet-calm, Next}
+use Rattle.history.proofs.Moving.Tuple.{Lies, moved, below, above, lies, done-below, ahead-above}
 
 pub record Within (b c : Box) : Type 0 where
   pub m-same : c .state .m ≡ b .state .m

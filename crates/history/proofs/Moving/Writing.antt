@@ -8,10 +8,10 @@ use lib.ListN.{length, length-set}
 use native.Mathlib.Omega.{arith}
 use Rattle.memory.specs.Box.{Box, word-at, copy-register, address}
 use Rattle.memory.specs.Collector.{write-copy}
-use Rattle.history.proofs.Inv.{Ghosts, Inv, Move, Stage, Zero, word, reading}
-use Rattle.history.proofs.Words.{word-moved, word-copied, word-unmoved, word-unread}
-use Rattle.history.proofs.Frame.{Next}
-use Rattle.history.proofs.Moving.Facts.{AtWrite, at-write, Bounds, bounds, Turn, earlier, now, later, turn}
+use Rattle.history.proofs.Invariant.Statement.{Ghosts, Inv, Move, Stage, Zero, word, reading}
+use Rattle.history.proofs.Invariant.Words.{word-moved, word-copied, word-unmoved, word-unread}
+use Rattle.history.proofs.Invariant.Frame.{Next}
+use Rattle.history.proofs.Moving.Tuple.{AtWrite, at-write, Bounds, bounds, Turn, earlier, now, later, turn}
 use Rattle.history.proofs.Moving.Put.{put-same, put-other}
 use Rattle.history.proofs.Moving.Within.{Within, zeroed-to, within}
 

@@ -7,7 +7,7 @@ use Rattle.memory.specs.State.{with-free, with-phase, with-dest, with-size, wit
 use Rattle.memory.specs.Box.{Box, with-state, size-of, set-mark, set-link}
 use Rattle.memory.specs.Collector.{after, go-on, start-move, free-tuple, start-zero, zero-word}
 use Rattle.history.proofs.Sweep.Keep.{kept-box, kept-last-box}
-use Rattle.history.proofs.Sweep.Start.{move-begun-box}
+use Rattle.history.proofs.Sweep.MoveBegins.{move-begun-box}
 use Rattle.history.proofs.Sweep.Release.{released-box, zero-begun-box, zero-index}
 use Rattle.history.proofs.Sweep.Zeroing.{zeroed-box, zero-on-box}
 

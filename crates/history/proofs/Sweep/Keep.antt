@@ -11,14 +11,14 @@ use Rattle.memory.specs.State.{with-phase, with-src, with-dest, with-tuple, wit
 use Rattle.memory.specs.Box.{Box, handle-of, with-state, word-at, size-of, marked, set-mark}
 use Rattle.memory.specs.Collector.{at-rest}
 use Rattle.history.specs.Agreement.{Member}
-use Rattle.history.proofs.Inv.{Plan, Ghosts, Inv, Laid, marked-rooms, Kept, settled, moving, unswept, surviving, Layout, Zero, Marks, Stage}
-use Rattle.history.proofs.Words.{word-early}
-use Rattle.history.proofs.Lists.{member-left, member-right, member-cases, perm-ahead-done, perm-done-ahead}
-use Rattle.history.proofs.Laid.{laid-frame, laid-snoc, laid-to, laid-none, marked-rooms-frame}
-use Rattle.history.proofs.Frame.{SameShape, shape-same, handles-moved, Quiet, quiet-contents, quiet-calm, Next}
-use Rattle.history.proofs.Resting.{resting-plan}
+use Rattle.history.proofs.Invariant.Statement.{Plan, Ghosts, Inv, Laid, marked-rooms, Kept, settled, moving, unswept, surviving, Layout, Zero, Marks, Stage}
+use Rattle.history.proofs.Invariant.Words.{word-early}
+use Rattle.history.proofs.Lists.Handles.{member-left, member-right, member-cases, perm-ahead-done, perm-done-ahead}
+use Rattle.history.proofs.Lists.Laid.{laid-frame, laid-snoc, laid-to, laid-none, marked-rooms-frame}
+use Rattle.history.proofs.Invariant.Frame.{SameShape, shape-same, handles-moved, Quiet, quiet-contents, quiet-calm, Next}
+use Rattle.history.proofs.Invariant.Resting.{resting-plan}
 use Rattle.history.proofs.Sweep.Tuple.{swept-end, ahead-other, at-src, control-at-src, behind-laid, live-if-marked, unmarked-other, still-unmarked, settled-unmarked}
-use Rattle.history.proofs.Sweep.Swept.{no-scans, sweep-plan, sweep-ghosts, unlisted, scan-ghosts, Scanned, scanned, next-at, Ended, ended-at, rooms-none, swept-marks, plain-quiet, next-tuple}
+use Rattle.history.proofs.Sweep.Stages.{no-scans, sweep-plan, sweep-ghosts, unlisted, scan-ghosts, Scanned, scanned, next-at, Ended, ended-at, rooms-none, swept-marks, plain-quiet, next-tuple}
 
 -- the box with another tuple behind
 abbrev pub kept-box : Box → Box

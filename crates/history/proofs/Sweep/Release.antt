@@ -13,13 +13,13 @@ use lib.ListN.{set, length-set}
 use Rattle.memory.specs.State.{with-free, with-phase, with-src, with-tuple, with-size, with-index}
 use Rattle.memory.specs.Box.{Box, handle-of, with-state, word-at, size-of, marked, set-link}
 use Rattle.history.specs.Agreement.{Member}
-use Rattle.history.proofs.Inv.{Plan, Ghosts, Inv, Chain, marked-rooms, Kept, settled, moving, unswept, surviving, Layout, Marks, Stage}
-use Rattle.history.proofs.Words.{word-early, word-late}
-use Rattle.history.proofs.Lists.{perm-ahead-free}
-use Rattle.history.proofs.Chain.{chain-push}
-use Rattle.history.proofs.Laid.{laid-frame, marked-rooms-frame}
-use Rattle.history.proofs.Frame.{SameShape, shape-same, handles-moved, Quiet, quiet-contents, quiet-calm, Next}
-use Rattle.history.proofs.Sweep.Swept.{no-scans, sweep-plan, sweep-ghosts, unlisted, scan-ghosts, Scanned, scanned, next-at, rooms-none, swept-marks, Plain, plain-quiet, next-tuple}
+use Rattle.history.proofs.Invariant.Statement.{Plan, Ghosts, Inv, Chain, marked-rooms, Kept, settled, moving, unswept, surviving, Layout, Marks, Stage}
+use Rattle.history.proofs.Invariant.Words.{word-early, word-late}
+use Rattle.history.proofs.Lists.Handles.{perm-ahead-free}
+use Rattle.history.proofs.Lists.Chain.{chain-push}
+use Rattle.history.proofs.Lists.Laid.{laid-frame, marked-rooms-frame}
+use Rattle.history.proofs.Invariant.Frame.{SameShape, shape-same, handles-moved, Quiet, quiet-contents, quiet-calm, Next}
+use Rattle.history.proofs.Sweep.Stages.{no-scans, sweep-plan, sweep-ghosts, unlisted, scan-ghosts, Scanned, scanned, next-at, rooms-none, swept-marks, Plain, plain-quiet, next-tuple}
 use Rattle.history.proofs.Sweep.Tuple.{swept-end, in-links, not-free, behind-laid, dest-below-src, live-if-unmarked, more-behind}
 
 -- the box where the sweep goes on behind the tuple

@@ -11,10 +11,10 @@ use lib.ListN.{length, getD, set}
 use lib.Seq.{getD-set-same, getD-set-other}
 use Rattle.memory.specs.Box.{Box, word-at, address, size-of, marked}
 use Rattle.history.specs.Agreement.{Member}
-use Rattle.history.proofs.Inv.{Inv, Control, Laid, marked-rooms}
-use Rattle.history.proofs.Lists.{member-right, member-cases, member-differs, Parts, parts}
-use Rattle.history.proofs.Laid.{laid-le, laid-rooms, marked-rooms-marked, marked-rooms-unmarked, marked-rooms-le}
-use Rattle.history.proofs.Sweep.Swept.{scan-ghosts, rooms-none, live-swept}
+use Rattle.history.proofs.Invariant.Statement.{Inv, Control, Laid, marked-rooms}
+use Rattle.history.proofs.Lists.Handles.{member-right, member-cases, member-differs, Parts, parts}
+use Rattle.history.proofs.Lists.Laid.{laid-le, laid-rooms, marked-rooms-marked, marked-rooms-unmarked, marked-rooms-le}
+use Rattle.history.proofs.Sweep.Stages.{scan-ghosts, rooms-none, live-swept}
 
 -- where the tuple under the sweep ends
 abbrev pub swept-end : Box → ℕ

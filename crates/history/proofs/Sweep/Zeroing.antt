@@ -14,13 +14,13 @@ use Rattle.memory.specs.State.{with-top, with-phase, with-src, with-tuple, with
 use Rattle.memory.specs.Box.{Box, Word, data-word, handle-of, with-state, word-at, put, address, size-of, marked}
 use Rattle.memory.specs.Collector.{after, at-rest}
 use Rattle.history.specs.Agreement.{Member}
-use Rattle.history.proofs.Inv.{Ghosts, Inv, Kept, settled, moving, unswept, surviving, Layout, Zero, Stage}
-use Rattle.history.proofs.Words.{word-early, word-late}
-use Rattle.history.proofs.Lists.{perm-refl}
-use Rattle.history.proofs.Laid.{laid-le, laid-bounds, laid-frame, laid-words, laid-none}
-use Rattle.history.proofs.Frame.{SameShape, shape-same, handles-same, handles-moved, layout-same, marks-same, kept-same, Quiet, quiet-contents, quiet-calm, Next}
-use Rattle.history.proofs.Resting.{resting-plan}
-use Rattle.history.proofs.Sweep.Swept.{no-scans, sweep-ghosts, unlisted, zero-ghosts, Zeroed, zeroed-view, next-at, Ended, ended-at, rooms-none, marked-rooms-nil, live-swept, kept-swept, plain-quiet, next-tuple}
+use Rattle.history.proofs.Invariant.Statement.{Ghosts, Inv, Kept, settled, moving, unswept, surviving, Layout, Zero, Stage}
+use Rattle.history.proofs.Invariant.Words.{word-early, word-late}
+use Rattle.history.proofs.Lists.Handles.{perm-refl}
+use Rattle.history.proofs.Lists.Laid.{laid-le, laid-bounds, laid-frame, laid-words, laid-none}
+use Rattle.history.proofs.Invariant.Frame.{SameShape, shape-same, handles-same, handles-moved, layout-same, marks-same, kept-same, Quiet, quiet-contents, quiet-calm, Next}
+use Rattle.history.proofs.Invariant.Resting.{resting-plan}
+use Rattle.history.proofs.Sweep.Stages.{no-scans, sweep-ghosts, unlisted, zero-ghosts, Zeroed, zeroed-view, next-at, Ended, ended-at, rooms-none, marked-rooms-nil, live-swept, kept-swept, plain-quiet, next-tuple}
 
 -- ---- a word is put into memory
 

@@ -9,7 +9,7 @@ use borrow.Author.Tests.{lt-ltb, le-ltb}
 use Rattle.memory.specs.Limits.{register-count}
 use Rattle.memory.specs.Box.{Box, reply}
 use Rattle.memory.specs.Collector.{at-rest, unheld, granted, try-held, settle, end-cycle}
-use Rattle.history.proofs.View.Fact.{lt?, true?, Entry, entry?, Room, NoRoom, room?, no-room-true, no-room-false, can-make-rest, can-make-lost}
+use Rattle.history.proofs.View.Tests.{lt?, true?, Entry, entry?, Room, NoRoom, room?, no-room-true, no-room-false, can-make-rest, can-make-lost}
 
 pub data Ending (found b : Box) : Type 0 where
   ends-free : b .state .held ≡ false → end-cycle found b ≡ reply (at-rest b) 31 → Ending found b

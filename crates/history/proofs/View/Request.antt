@@ -13,7 +13,7 @@ use Rattle.memory.specs.Limits.{half-word, register-count}
 use Rattle.memory.specs.Box.{Box, Word, Reply, reply, data-word, pointer, handle-of, offset-of, tag-of, is-nil, names-tuple, register, put-register, size-of, marked, set-deep, sound}
 use Rattle.memory.specs.Place.{Place, place, in-memory, read, write, can-shade, shade}
 use Rattle.memory.specs.Request.{new-tuple, hold, at-tuple, word-number, at-word, done, advance, getm, load, shades, shaded-first, deepened, store-word, store, size as size-rule, tag-at, tag as tag-rule, same-word, same, is-register, registers-right, carry-out, request}
-use Rattle.history.proofs.View.Fact.{and-left, and-right, le?, lt?, eq?, true?, Entry, entry?, entry-true, entry-false, Shading, shading, shaded, unshaded, shade-lost, shade-total, can-shade-marked, can-shade-unmarked, can-shade-lost, can-shade-total, shade-marked, NoRoom, Room, room?, no-room-true, no-room-false, can-make-rest, can-make-counted, can-make-lost, can-make-total}
+use Rattle.history.proofs.View.Tests.{and-left, and-right, le?, lt?, eq?, true?, Entry, entry?, entry-true, entry-false, Shading, shading, shaded, unshaded, shade-lost, shade-total, can-shade-marked, can-shade-unmarked, can-shade-lost, can-shade-total, shade-marked, NoRoom, Room, room?, no-room-true, no-room-false, can-make-rest, can-make-counted, can-make-lost, can-make-total}
 
 -- the tuple that a register points to, and the number of the word that its offset and k name
 abbrev pub named : ℕ → Box → ℕ

@@ -14,7 +14,7 @@ use Rattle.memory.specs.State.{with-top, with-free, with-phase, with-live, with
 use Rattle.memory.specs.Box.{Box, reply, data-word, handle-of, names-tuple, with-state, word-at, put, register, size-of, marked, set-address, set-link, set-mark, right-sizes, sound}
 use Rattle.memory.specs.Place.{shade}
 use Rattle.memory.specs.Collector.{going, to-phase, after, end-cycle, note-begun, rest, scan, unmarked, damaged, nothing, look-register, look-from, begin-sweep, end-marking, mark-root, scan-next, mark-next, scan-word, scan-current, mark-scan, mark-add, go-on, keep-in-place, start-move, free-tuple, start-zero, release, sweep-tuple, sweep-scan, leave-tuple, settle-move, finish-move, copy-word, sweep-read, sweep-clear, write-copy, sweep-write, zero-word, sweep-zero, rule-of, step}
-use Rattle.history.proofs.View.Fact.{and-right, true-is-not-false, le?, lt?, eq?, true?, Entry, entry?, entry-true, entry-false, Shading, shading, shaded, unshaded, shade-lost, shade-total, can-shade-marked, can-shade-unmarked, can-shade-lost, can-shade-total, shade-marked}
+use Rattle.history.proofs.View.Tests.{and-right, true-is-not-false, le?, lt?, eq?, true?, Entry, entry?, entry-true, entry-false, Shading, shading, shaded, unshaded, shade-lost, shade-total, can-shade-marked, can-shade-unmarked, can-shade-lost, can-shade-total, shade-marked}
 
 -- ---- the boxes that the steps leave
 

@@ -1,0 +1,314 @@
+-- The steps left fall with each step that ends no cycle: the laws of marking and of the sweep at the boxes that the rules of
+-- document 01 leave, with the facts by which a rule chooses. The ghosts after a step are any with which the invariant holds.
+-- Assumes nothing.
+use Prim.Native.Nat.{ℕ, _+_, _≤_, _<_}
+use mathlib.Core.Bool.{Bool, true, false}
+use mathlib.Core.List.{List}
+use mathlib.Core.Logic.{_≢_, inl}
+use mathlib.Core.Path.{_≡_, refl, sym, _∙_, subst}
+use native.Mathlib.Omega.{arith}
+use borrow.Author.Tests.{lt-ltb, le-ltb}
+use lib.Seq.{getD-set-other}
+use Rattle.memory.specs.Limits.{register-count}
+use Rattle.memory.specs.State.{with-dest, with-next, with-size}
+use Rattle.memory.specs.Box.{Box, Word, data-word, handle-of, names-tuple, with-state, word-at, put, register, copy-register, size-of, marked, deep, set-mark}
+use Rattle.memory.specs.Place.{list-next, mark-live, shade}
+use Rattle.memory.specs.Collector.{to-phase, after, note-begun, rest, scan, begin-sweep, scan-word, go-on, start-move, free-tuple, start-zero, settle-move, copy-word, write-copy, zero-word}
+use Rattle.history.specs.Agreement.{Member}
+use Rattle.history.proofs.Invariant.Statement.{Ghosts, Inv, Kept, settled, moving, unswept, surviving, Stage, at-rest, finding, scanning, adding, sweeping, reading, clearing, writing, zeroing, Unswept, Move}
+use Rattle.history.proofs.Lists.Handles.{parts, member-differs}
+use Rattle.history.proofs.Invariant.Fixed.{unswept-stage}
+use Rattle.history.proofs.Left.Count.{left}
+use Rattle.history.proofs.Left.Falls.{SamePlace}
+use Rattle.history.proofs.Left.Marks.{SameHeap, Listing, unlisted, listed-first, ShadedBox, left-rests, left-takes-next, left-shades-root, left-begins-sweep, left-scans-data, left-scans-pointer, left-scan-ends, left-takes-current, left-adds-marked, left-adds-unmarked}
+use Rattle.history.proofs.Left.Sweeps.{move-within, left-sweeps-on, left-starts-move, left-starts-zero, left-copies-high, left-copies-low, left-moves-on, left-clears, left-writes, left-zeroes, left-zero-on}
+
+-- ---- 0
+
+-- only the state changes, whether or not a hold notes that the cycle begins
+rest-heap : (b : Box) → SameHeap b (rest b .box)
+unfolding rest note-begun
+rest-heap b = go (b .state .held) refl
+  where
+    go : (t : Bool) → b .state .held ≡ t → SameHeap b (rest b .box)
+    go true e = record { addresses-are = simp e; sizes-are = simp e; words-are = simp e; flags-are = simp e; top-is = simp e }
+    go false e = record { addresses-are = simp e; sizes-are = simp e; words-are = simp e; flags-are = simp e; top-is = simp e }
+
+record RestNumbers (c : Box) : Type 0 where
+  phase-is : c .state .phase ≡ 1
+  next-is : c .state .next ≡ 0
+  current-is : c .state .current ≡ 0
+
+rest-numbers : (b : Box) → RestNumbers (rest b .box)
+unfolding rest note-begun
+rest-numbers b = go (b .state .held) refl
+  where
+    go : (t : Bool) → b .state .held ≡ t → RestNumbers (rest b .box)
+    go true e = record { phase-is = simp e; next-is = simp e; current-is = simp e }
+    go false e = record { phase-is = simp e; next-is = simp e; current-is = simp e }
+
+pub fewer-rests : (b : Box) (g g′ : Ghosts) → Inv b g → b .state .phase ≡ 0 → Inv (rest b .box) g′ → left (rest b .box) g′ < left b g
+fewer-rests b g g′ v p w =
+    let n : RestNumbers (rest b .box) = rest-numbers b in
+    left-rests b g (rest b .box) g′ v w p (n .phase-is) (rest-heap b) (n .next-is) (n .current-is)
+
+-- ---- 1
+
+pub fewer-takes-next : (b : Box) (g g′ : Ghosts) → Inv b g → b .state .phase ≡ 1 → b .state .next ≢ 0
+    → Inv (scan (b .state .next) (with-state (with-next 0 (b .state)) b)) g′ → left (scan (b .state .next) (with-state (with-next 0 (b .state)) b)) g′ < left b g
+unfolding scan
+fewer-takes-next b g g′ v p n w = left-takes-next b g (scan (b .state .next) (with-state (with-next 0 (b .state)) b)) g′ v w p refl (search) n refl refl refl refl
+
+-- what shading an unmarked tuple leaves
+shade-box : (h : ℕ) (b : Box) → marked h b ≡ false → ShadedBox b (shade h b) h
+unfolding shade list-next mark-live
+shade-box h b f = go (deep h b) refl
+  where
+    go : (t : Bool) → deep h b ≡ t → ShadedBox b (shade h b) h
+    go true e =
+        record {
+          heap = record { addresses-are = simp (f, e); sizes-are = simp (f, e); words-are = simp (f, e); flags-are = simp (f, e); top-is = simp (f, e) };
+          marks-are = simp (f, e);
+          listing = listed-first (simp (f, e)) (simp (f, e));
+          current-is = simp (f, e);
+        }
+    go false e =
+        record {
+          heap = record { addresses-are = simp (f, e); sizes-are = simp (f, e); words-are = simp (f, e); flags-are = simp (f, e); top-is = simp (f, e) };
+          marks-are = simp (f, e);
+          listing = unlisted (simp (f, e)) (simp (f, e));
+          current-is = simp (f, e);
+        }
+
+record ShadeNumbers (b c : Box) : Type 0 where
+  phase-is : c .state .phase ≡ b .state .phase
+  place : SamePlace b c
+
+shade-numbers : (h : ℕ) (b : Box) → marked h b ≡ false → ShadeNumbers b (shade h b)
+unfolding shade list-next mark-live
+shade-numbers h b f = go (deep h b) refl
+  where
+    go : (t : Bool) → deep h b ≡ t → ShadeNumbers b (shade h b)
+    go true e = record { phase-is = simp (f, e); place = record { size = simp (f, e); index = simp (f, e) } }
+    go false e = record { phase-is = simp (f, e); place = record { size = simp (f, e); index = simp (f, e) } }
+
+-- before the sweep every kept tuple lies ahead
+kept-ahead : (b : Box) (g : Ghosts) (h : ℕ) → Unswept g → Kept b (g .plan) h → Member h (g .plan .ahead)
+kept-ahead b g h u (settled m) = absurd (subst (λ (l : List ℕ). Member h l) (u .no-done) m)
+kept-ahead b g h u (moving m) = absurd (subst (λ (l : List ℕ). Member h l) (u .no-mid) m)
+kept-ahead b g h u (unswept m l) = m
+kept-ahead b g h u (surviving m t) = m
+
+pub fewer-shades-root : (b : Box) (g g′ : Ghosts) → Inv b g → b .state .phase ≡ 1 → (r : ℕ) → r < register-count → names-tuple (register r b) ≡ true
+    → marked (handle-of (register r b)) b ≡ false → Inv (shade (handle-of (register r b)) b) g′ → left (shade (handle-of (register r b)) b) g′ < left b g
+fewer-shades-root b g g′ v p r l n f w =
+    let h : ℕ = handle-of (register r b) in
+    left-shades-root b g (shade h b) g′ h v w p (shade-numbers h b f .phase-is ∙ p) (shade-box h b f)
+    (kept-ahead b g h (unswept-stage b g v (omega arith)) (v .contents .roots-kept r l n)) f
+
+pub fewer-begins-sweep : (b : Box) (g g′ : Ghosts) → Inv b g → b .state .phase ≡ 1 → Inv (begin-sweep b) g′ → left (begin-sweep b) g′ < left b g
+unfolding begin-sweep
+fewer-begins-sweep b g g′ v p w = left-begins-sweep b g (begin-sweep b) g′ v w p refl (search) refl
+
+-- ---- 2
+
+pub fewer-scans-data : (b : Box) (g g′ : Ghosts) → Inv b g → b .state .phase ≡ 2 → b .state .index ≤ b .state .size
+    → names-tuple (word-at (b .state .src + b .state .index) b) ≡ false → Inv (scan-word b) g′ → left (scan-word b) g′ < left b g
+unfolding scan-word
+fewer-scans-data b g g′ v p l f w =
+    left-scans-data b g (scan-word b) g′ v w p (simp (f, p))
+    (record { heap = record { addresses-are = simp f; sizes-are = simp f; words-are = simp f; flags-are = simp f; top-is = simp f }; marks-are = simp f; links-are = simp f })
+    (record { next-is = simp f; current-is = simp f })
+    (record { size = simp f; index = simp f; within = l })
+
+pub fewer-scans-pointer : (b : Box) (g g′ : Ghosts) → Inv b g → b .state .phase ≡ 2 → b .state .index ≤ b .state .size
+    → names-tuple (word-at (b .state .src + b .state .index) b) ≡ true → Inv (scan-word b) g′ → left (scan-word b) g′ < left b g
+unfolding scan-word
+fewer-scans-pointer b g g′ v p l f w =
+    left-scans-pointer b g (scan-word b) g′ v w p (simp f)
+    (record { heap = record { addresses-are = simp f; sizes-are = simp f; words-are = simp f; flags-are = simp f; top-is = simp f }; marks-are = simp f; links-are = simp f })
+    (record { next-is = simp f; current-is = simp f })
+    (record { size = simp f; index = simp f; within = l })
+
+pub fewer-scan-ends : (b : Box) (g g′ : Ghosts) → Inv b g → b .state .phase ≡ 2 → Inv (to-phase 1 b) g′ → left (to-phase 1 b) g′ < left b g
+fewer-scan-ends b g g′ v p w = left-scan-ends b g (to-phase 1 b) g′ v w p refl (search) (search)
+
+pub fewer-takes-current : (b : Box) (g g′ : Ghosts) → Inv b g → b .state .phase ≡ 2 → b .state .current ≢ 0
+    → Inv (scan (b .state .current) b) g′ → left (scan (b .state .current) b) g′ < left b g
+unfolding scan
+fewer-takes-current b g g′ v p n w = left-takes-current b g (scan (b .state .current) b) g′ v w p refl (search) n refl refl refl refl
+
+-- ---- 3
+
+pub fewer-adds-marked : (b : Box) (g g′ : Ghosts) → Inv b g → b .state .phase ≡ 3 → Inv (to-phase 2 b) g′ → left (to-phase 2 b) g′ < left b g
+fewer-adds-marked b g g′ v p w = left-adds-marked b g (to-phase 2 b) g′ v w p refl (search) (search) (search)
+
+-- the tuple to be added lies ahead
+adding-ahead : (b : Box) (g : Ghosts) → Inv b g → b .state .phase ≡ 3 → Member (b .state .tuple) (g .plan .ahead)
+adding-ahead b g v f = by-stage (v .stage)
+  where
+    by-stage : Stage b g → Member (b .state .tuple) (g .plan .ahead)
+    by-stage (at-rest p u k n) = absurd (omega arith)
+    by-stage (finding p u m n) = absurd (omega arith)
+    by-stage (scanning p u s c k) = absurd (omega arith)
+    by-stage (adding p u s c t k) = t
+    by-stage (sweeping p k m w a z hs e) = absurd (omega arith)
+    by-stage (reading p m i z) = absurd (omega arith)
+    by-stage (clearing p m i z) = absurd (omega arith)
+    by-stage (writing p m i z) = absurd (omega arith)
+    by-stage (zeroing p k m w a d i z) = absurd (omega arith)
+
+-- the phase is no part of it
+phase-shaded : (b c : Box) (h p : ℕ) → ShadedBox b c h → ShadedBox b (to-phase p c) h
+phase-shaded b c h p s =
+    record {
+      heap = record { addresses-are = s .heap .addresses-are; sizes-are = s .heap .sizes-are; words-are = s .heap .words-are; flags-are = s .heap .flags-are; top-is = s .heap .top-is };
+      marks-are = s .marks-are;
+      listing = again (s .listing);
+      current-is = s .current-is;
+    }
+  where
+    again : Listing b c h → Listing b (to-phase p c) h
+    again (unlisted e n) = unlisted e n
+    again (listed-first e n) = listed-first e n
+
+pub fewer-adds-unmarked : (b : Box) (g g′ : Ghosts) → Inv b g → b .state .phase ≡ 3 → marked (b .state .tuple) b ≡ false
+    → Inv (to-phase 2 (shade (b .state .tuple) b)) g′ → left (to-phase 2 (shade (b .state .tuple) b)) g′ < left b g
+fewer-adds-unmarked b g g′ v p f w =
+    let n : ShadeNumbers b (shade (b .state .tuple) b) = shade-numbers (b .state .tuple) b f in
+    left-adds-unmarked b g (to-phase 2 (shade (b .state .tuple) b)) g′ (b .state .tuple) v w p refl
+    (phase-shaded b (shade (b .state .tuple) b) (b .state .tuple) 2 (shade-box (b .state .tuple) b f))
+    (adding-ahead b g v p) f
+    (record { size = n .place .size; index = n .place .index })
+
+-- ---- 4
+
+-- the box with the size of the tuple at src from its entry
+abbrev pub sized : Box → Box
+sized b = with-state (with-size (size-of (b .state .tuple) b) (b .state)) b
+
+-- a tuple is kept in place
+abbrev pub in-place : Box → Box
+in-place b = set-mark (b .state .tuple) false (with-state (with-dest (after (sized b)) (sized b .state)) (sized b))
+
+pub fewer-keeps : (b : Box) (g g′ : Ghosts) → Inv b g → b .state .phase ≡ 4
+    → Inv (go-on (after (sized b)) (in-place b)) g′ → left (go-on (after (sized b)) (in-place b)) g′ < left b g
+unfolding go-on
+fewer-keeps b g g′ v p w = left-sweeps-on b g (go-on (after (sized b)) (in-place b)) g′ v w p refl (search) refl
+
+pub fewer-starts-move : (b : Box) (g g′ : Ghosts) → Inv b g → b .state .phase ≡ 4 → Inv (start-move (sized b)) g′ → left (start-move (sized b)) g′ < left b g
+unfolding start-move
+fewer-starts-move b g g′ v p w = left-starts-move b g (start-move (sized b)) g′ v w p refl (search) refl refl
+
+pub fewer-releases : (b : Box) (g g′ : Ghosts) → Inv b g → b .state .phase ≡ 4
+    → Inv (go-on (after (sized b)) (free-tuple (sized b))) g′ → left (go-on (after (sized b)) (free-tuple (sized b))) g′ < left b g
+unfolding go-on free-tuple
+fewer-releases b g g′ v p w = left-sweeps-on b g (go-on (after (sized b)) (free-tuple (sized b))) g′ v w p refl (search) refl
+
+pub fewer-starts-zero : (b : Box) (g g′ : Ghosts) → Inv b g → b .state .phase ≡ 4
+    → Inv (start-zero (free-tuple (sized b))) g′ → left (start-zero (free-tuple (sized b))) g′ < left b g
+unfolding start-zero free-tuple
+fewer-starts-zero b g g′ v p w = left-starts-zero b g (start-zero (free-tuple (sized b))) g′ v w p refl (search) refl refl
+
+-- ---- 5
+
+pub fewer-copies-high : (b : Box) (g g′ : Ghosts) → Inv b g → b .state .phase ≡ 5 → b .state .live ≤ b .state .src + b .state .index
+    → Inv (copy-word (b .state .src + b .state .index) b) g′ → left (copy-word (b .state .src + b .state .index) b) g′ < left b g
+unfolding copy-word
+fewer-copies-high b g g′ v p l w =
+    left-copies-high b g (copy-word (b .state .src + b .state .index) b) g′ v w p (simp (le-ltb (b .state .src + b .state .index) (b .state .live) l)) (search) refl (search)
+
+pub fewer-copies-low : (b : Box) (g g′ : Ghosts) → Inv b g → b .state .phase ≡ 5 → b .state .src + b .state .index < b .state .live
+    → Inv (copy-word (b .state .src + b .state .index) b) g′ → left (copy-word (b .state .src + b .state .index) b) g′ < left b g
+unfolding copy-word
+fewer-copies-low b g g′ v p l w =
+    left-copies-low b g (copy-word (b .state .src + b .state .index) b) g′ v w p (simp (lt-ltb (b .state .src + b .state .index) (b .state .live) l)) (search) refl (search)
+
+-- the tuple that is moved, and where to
+moving-stage : (b : Box) (g : Ghosts) → Inv b g → 5 ≤ b .state .phase → b .state .phase ≤ 7 → Move b g
+moving-stage b g v l k = by-stage (v .stage)
+  where
+    by-stage : Stage b g → Move b g
+    by-stage (at-rest p u s n) = absurd (omega arith)
+    by-stage (finding p u m n) = absurd (omega arith)
+    by-stage (scanning p u s c t) = absurd (omega arith)
+    by-stage (adding p u s c t e) = absurd (omega arith)
+    by-stage (sweeping p u m w a z hs e) = absurd (omega arith)
+    by-stage (reading p m i z) = m
+    by-stage (clearing p m i z) = m
+    by-stage (writing p m i z) = m
+    by-stage (zeroing p u m w a d i z) = absurd (omega arith)
+
+-- it does not lie ahead
+moved-apart : (b : Box) (g : Ghosts) → Inv b g → Move b g → (h : ℕ) → Member h (g .plan .ahead) → h ≢ b .state .tuple
+moved-apart b g v m h x =
+    member-differs h (b .state .tuple) (g .plan .ahead) x
+    (parts (g .plan .done) (g .plan .mid) (g .plan .ahead) (g .free) (v .handles .distinct) .mid-ahead (b .state .tuple) (subst (λ (l : List ℕ). Member (b .state .tuple) l) (sym (m .mid-is)) (inl refl)))
+
+pub fewer-moves-on : (b : Box) (g g′ : Ghosts) → Inv b g → b .state .phase ≡ 5
+    → Inv (go-on (after (settle-move b)) (settle-move b)) g′ → left (go-on (after (settle-move b)) (settle-move b)) g′ < left b g
+unfolding go-on settle-move
+fewer-moves-on b g g′ v p w =
+    left-moves-on b g (go-on (after (settle-move b)) (settle-move b)) g′ v w p refl
+    (record {
+      addresses = λ h x. getD-set-other (b .addresses) (b .state .tuple) h (b .state .dest) 0 (moved-apart b g v (moving-stage b g v (omega arith) (omega arith)) h x);
+      sizes = λ h. refl;
+      words = λ x l. refl;
+      top = refl;
+    })
+    refl
+
+-- ---- 6 and 7
+
+-- a word put below a leaves those from a on
+put-below : (a k : ℕ) (u : Word) (b : Box) → k < a → (x : ℕ) → a ≤ x → word-at x (put k u b) ≡ word-at x b
+put-below a k u b l x m =
+    let n : x ≢ k = omega arith in
+    λ i. record { bits = getD-set-other (b .words) k x (u .bits) 0 n i; flag = getD-set-other (b .flags) k x (u .flag) false n i }
+
+pub fewer-clears : (b : Box) (g g′ : Ghosts) → Inv b g → b .state .phase ≡ 6
+    → Inv (to-phase 7 (put (b .state .src + b .state .index) (data-word 0) b)) g′ → left (to-phase 7 (put (b .state .src + b .state .index) (data-word 0) b)) g′ < left b g
+fewer-clears b g g′ v p w =
+    let i : b .state .index ≤ b .state .size = move-within b g v (omega arith) (omega arith) in
+    left-clears b g (to-phase 7 (put (b .state .src + b .state .index) (data-word 0) b)) g′ v w p refl
+    (record {
+      addresses = λ h x. refl;
+      sizes = λ h. refl;
+      words = put-below (after b) (b .state .src + b .state .index) (data-word 0) b (omega arith);
+      top = refl;
+    })
+    refl (search)
+
+pub fewer-writes : (b : Box) (g g′ : Ghosts) → Inv b g → b .state .phase ≡ 7 → Inv (write-copy b) g′ → left (write-copy b) g′ < left b g
+unfolding write-copy
+fewer-writes b g g′ v p w =
+    let i : b .state .index ≤ b .state .size = move-within b g v (omega arith) (omega arith) in
+    let m : Move b g = moving-stage b g v (omega arith) (omega arith) in
+    left-writes b g (write-copy b) g′ v w p refl
+    (record {
+      addresses = λ h x. refl;
+      sizes = λ h. refl;
+      words = put-below (after b) (b .state .dest + b .state .index) (copy-register b) b (omega arith);
+      top = refl;
+    })
+    refl
+    (record { size = refl; index = refl; within = i })
+
+-- ---- 8
+
+pub fewer-zeroes : (b : Box) (g g′ : Ghosts) → Inv b g → b .state .phase ≡ 8 → b .state .index ≤ b .state .size → Inv (zero-word b) g′ → left (zero-word b) g′ < left b g
+unfolding zero-word
+fewer-zeroes b g g′ v p i w =
+    left-zeroes b g (zero-word b) g′ v w p p
+    (record {
+      addresses = λ h x. refl;
+      sizes = λ h. refl;
+      words = put-below (after b) (b .state .src + b .state .index) (data-word 0) b (omega arith);
+      top = refl;
+    })
+    refl
+    (record { size = refl; index = refl; within = i })
+
+pub fewer-zero-on : (b : Box) (g g′ : Ghosts) → Inv b g → b .state .phase ≡ 8 → Inv (go-on (after b) b) g′ → left (go-on (after b) b) g′ < left b g
+unfolding go-on
+fewer-zero-on b g g′ v p w = left-zero-on b g (go-on (after b) b) g′ v w p refl (search) refl

@@ -1,0 +1,188 @@
+-- The hold is no part of the relation: a request put on hold, a hold dropped and a hold granted keep it. And whatever is fed to the
+-- history machine, it has as many registers as before. Assumes nothing.
+use Prim.Native.Nat.{ℕ, suc, _+_, _<_}
+use mathlib.Core.Bool.{Bool, true, false, cond}
+use mathlib.Core.List.{List, [], _∷_, _++_}
+use mathlib.Core.Option.{Option, none, some}
+use mathlib.Core.Path.{_≡_, refl}
+use lib.Dec.{eqb, ltb}
+use lib.ListN.{length, length-set, length-replicate}
+use Rattle.memory.specs.declared.request.Request.{Request}
+use Rattle.memory.specs.declared.request.Request.the-variants.{Setd, Nil, Move, Advance, Getm, Load, Store, Size, Tag, Same}
+use Rattle.memory.specs.Limits.{register-count}
+use Rattle.memory.specs.Box.{Box}
+use Rattle.memory.specs.Place.{Place, copy-place, at, being-moved, place, read}
+use Rattle.memory.specs.Request.{hold}
+use Rattle.memory.specs.Collector.{unheld}
+use Rattle.history.specs.Machine.{HWord, datum, pointer-to, Asked, History, fresh, register-of, size-at, word-of, made, with-hold, put-in, make, advance-by, load-from, store-to, size-to, tag-to, do-request, hold-request, grant, Call, ask, single-step, run-for, feed}
+use Rattle.history.proofs.Invariant.Statement.{Plan, word, Kept, settled, moving, unswept, surviving, Contents}
+use Rattle.history.proofs.Invariant.Frame.{Calm}
+use Rattle.history.proofs.Relation.Statement.{Holds, Related}
+use Rattle.history.proofs.Relation.Still.{related-calm}
+use Rattle.history.proofs.Relation.NewTuple.{Made, renumbered, related-made}
+use Rattle.history.proofs.Relation.Store.{stored-in}
+
+-- ---- the box's hold
+
+read-hold : (r n t : ℕ) (q : Place) (b : Box) → read q (hold r n t b) ≡ read q b
+unfolding read hold
+read-hold r n t copy-place b = refl
+read-hold r n t (at a) b = refl
+
+word-hold : (r n t h i : ℕ) (b : Box) → word h i (hold r n t b) ≡ word h i b
+unfolding word place being-moved hold
+word-hold r n t h i b = read-hold r n t (place h i b) b
+
+kept-hold-to : (r n t : ℕ) (b : Box) (p : Plan) (h : ℕ) → Kept (hold r n t b) p h → Kept b p h
+unfolding hold
+kept-hold-to r n t b p h (settled x) = settled x
+kept-hold-to r n t b p h (moving x) = moving x
+kept-hold-to r n t b p h (unswept x l) = unswept x l
+kept-hold-to r n t b p h (surviving x m) = surviving x m
+
+pub calm-hold : (r n t : ℕ) (b : Box) (p : Plan) → Calm b p (hold r n t b) p
+unfolding hold
+calm-hold r n t b p = record { kept-to = kept-hold-to r n t b p; roots-same = λ s. refl; sizes-same = λ h k. refl; words-same = λ h k i l. word-hold r n t h i b }
+
+read-unheld : (q : Place) (b : Box) → read q (unheld b) ≡ read q b
+unfolding read unheld
+read-unheld copy-place b = refl
+read-unheld (at a) b = refl
+
+word-unheld : (h i : ℕ) (b : Box) → word h i (unheld b) ≡ word h i b
+unfolding word place being-moved unheld
+word-unheld h i b = read-unheld (place h i b) b
+
+kept-unheld-to : (b : Box) (p : Plan) (h : ℕ) → Kept (unheld b) p h → Kept b p h
+unfolding unheld
+kept-unheld-to b p h (settled x) = settled x
+kept-unheld-to b p h (moving x) = moving x
+kept-unheld-to b p h (unswept x l) = unswept x l
+kept-unheld-to b p h (surviving x m) = surviving x m
+
+pub calm-unheld : (b : Box) (p : Plan) → Calm b p (unheld b) p
+unfolding unheld
+calm-unheld b p = record { kept-to = kept-unheld-to b p; roots-same = λ s. refl; sizes-same = λ h k. refl; words-same = λ h k i l. word-unheld h i b }
+
+-- ---- both sides
+
+pub related-with-hold : (o : Option Asked) (b : Box) (p : Plan) (m : History) (given : List ℕ) (number : ℕ → ℕ) → Related b p m given number → Related b p (with-hold o m) given number
+related-with-hold o b p m given number s =
+    record {
+      roots-match = s .roots-match;
+      kept-hold = held;
+      nil-number = s .nil-number;
+      all-given = s .all-given;
+      given-entry = s .given-entry;
+      number-latest = s .number-latest;
+    }
+  where
+    held : (h : ℕ) → Kept b p h → Holds b (with-hold o m) given number h
+    held h k =
+        let y : Holds b m given number h = s .kept-hold h k in
+        record { number-made = y .number-made; handle-given = y .handle-given; size-same = y .size-same; tag-same = y .tag-same; words-match = y .words-match }
+
+-- a GETM answered 7
+pub related-hold : (r n t : ℕ) (b : Box) (p : Plan) (m : History) (given : List ℕ) (number : ℕ → ℕ) → Related b p m given number → Related (hold r n t b) p (hold-request (Getm r n t) m) given number
+unfolding hold hold-request
+related-hold r n t b p m given number s =
+    related-with-hold (some (record { register = r; size = n; tag = t })) (hold r n t b) p m given number
+    (related-calm b (hold r n t b) p p m given number (calm-hold r n t b p) refl s)
+
+-- the hold dropped from the box
+pub related-unheld : (b : Box) (p : Plan) (m : History) (given : List ℕ) (number : ℕ → ℕ) → Related b p m given number → Related (unheld b) p m given number
+unfolding unheld
+related-unheld b p m given number s = related-calm b (unheld b) p p m given number (calm-unheld b p) refl s
+
+-- and from both
+pub related-dropped : (b : Box) (p : Plan) (m : History) (given : List ℕ) (number : ℕ → ℕ) → Related b p m given number → Related (unheld b) p (with-hold none m) given number
+related-dropped b p m given number s = related-with-hold none (unheld b) p m given number (related-unheld b p m given number s)
+
+-- the hold granted: c has the new tuple
+pub related-granted : (b : Box) (p : Plan) (c : Box) (q : Plan) (h : ℕ) (o : Asked) (m : History) (given : List ℕ) (number : ℕ → ℕ) → Made b p c q (o .register) h (o .size) (o .tag) → Contents b p → Related b p m given number → length (m .registers) ≡ register-count → o .register < register-count
+    → Related (unheld c) q (grant (some o) m) (given ++ h ∷ []) (renumbered number h (suc (made m)))
+unfolding grant
+related-granted b p c q h o m given number a i s eight l =
+    related-dropped c q (make (o .register) (o .size) (o .tag) m) (given ++ h ∷ []) (renumbered number h (suc (made m)))
+    (related-made b p c q (o .register) h (o .size) (o .tag) m given number a i s eight l)
+
+-- ---- the history machine's registers
+
+registers-cond : (t : Bool) (x y m : History) → length (x .registers) ≡ length (m .registers) → length (y .registers) ≡ length (m .registers) → length (cond t x y .registers) ≡ length (m .registers)
+registers-cond true x y m e f = e
+registers-cond false x y m e f = f
+
+registers-advance : (r n : ℕ) (v : HWord) (m : History) → length (advance-by r n v m .registers) ≡ length (m .registers)
+unfolding advance-by
+registers-advance r n (datum v) m = refl
+registers-advance r n (pointer-to i o) m = simp length-set
+
+registers-load : (r n : ℕ) (v : HWord) (m : History) → length (load-from r v n m .registers) ≡ length (m .registers)
+unfolding load-from
+registers-load r n (datum v) m = refl
+registers-load r n (pointer-to i o) m = registers-cond (ltb (o + n) (size-at i m)) (put-in r (word-of i (o + n) m) m) m m (simp length-set) refl
+
+registers-store : (n : ℕ) (w v : HWord) (m : History) → length (store-to w v n m .registers) ≡ length (m .registers)
+unfolding store-to
+registers-store n w (datum v) m = refl
+registers-store n w (pointer-to i o) m = registers-cond (ltb (o + n) (size-at i m)) (stored-in i (o + n) w m) m m refl refl
+
+registers-size : (r : ℕ) (v : HWord) (m : History) → length (size-to r v m .registers) ≡ length (m .registers)
+unfolding size-to
+registers-size r (datum v) m = refl
+registers-size r (pointer-to i o) m = simp length-set
+
+registers-tag : (r : ℕ) (v : HWord) (m : History) → length (tag-to r v m .registers) ≡ length (m .registers)
+unfolding tag-to
+registers-tag r (datum v) m = refl
+registers-tag r (pointer-to i o) m = simp length-set
+
+pub registers-make : (r n tag : ℕ) (m : History) → length (make r n tag m .registers) ≡ length (m .registers)
+unfolding make
+registers-make r n tag m = simp length-set
+
+pub registers-request : (q : Request) (m : History) → length (do-request q m .registers) ≡ length (m .registers)
+unfolding do-request
+registers-request (Setd r v) m = simp length-set
+registers-request (Nil r) m = simp length-set
+registers-request (Move r s) m = simp length-set
+registers-request (Advance r n) m = registers-advance r n (register-of r m) m
+registers-request (Getm r n t) m = registers-make r n t m
+registers-request (Load r s k) m = registers-load r k (register-of s m) m
+registers-request (Store r s k) m = registers-store k (register-of r m) (register-of s m) m
+registers-request (Size r s) m = registers-size r (register-of s m) m
+registers-request (Tag r s) m = registers-tag r (register-of s m) m
+registers-request (Same r s t) m = simp length-set
+
+pub registers-hold : (q : Request) (m : History) → length (hold-request q m .registers) ≡ length (m .registers)
+unfolding hold-request
+registers-hold (Setd r v) m = refl
+registers-hold (Nil r) m = refl
+registers-hold (Move r s) m = refl
+registers-hold (Advance r n) m = refl
+registers-hold (Getm r n t) m = refl
+registers-hold (Load r s k) m = refl
+registers-hold (Store r s k) m = refl
+registers-hold (Size r s) m = refl
+registers-hold (Tag r s) m = refl
+registers-hold (Same r s t) m = refl
+
+pub registers-grant : (o : Option Asked) (m : History) → length (grant o m .registers) ≡ length (m .registers)
+unfolding grant
+registers-grant none m = refl
+registers-grant (some q) m = registers-make (q .register) (q .size) (q .tag) m
+
+-- any call and any answer
+pub registers-feed : (k : Call) (a : ℕ) (m : History) → length (feed k a m .registers) ≡ length (m .registers)
+unfolding feed
+registers-feed (ask q) a m =
+    registers-cond (eqb a 0) (do-request q m) (cond (eqb a 7) (hold-request q m) m) m (registers-request q m) (registers-cond (eqb a 7) (hold-request q m) m m (registers-hold q m) refl)
+registers-feed single-step a m =
+    registers-cond (eqb a 32) (grant (m .hold) m) (cond (eqb a 8) (with-hold none m) m) m (registers-grant (m .hold) m) (registers-cond (eqb a 8) (with-hold none m) m m refl refl)
+registers-feed (run-for n) a m =
+    registers-cond (eqb a 0) (grant (m .hold) m) (cond (eqb a 8) (with-hold none m) m) m (registers-grant (m .hold) m) (registers-cond (eqb a 8) (with-hold none m) m m refl refl)
+
+-- the history machine begins with eight
+pub registers-fresh : length (fresh .registers) ≡ register-count
+unfolding fresh
+registers-fresh = length-replicate register-count (datum 0)
