@@ -1,23 +1,22 @@
 -- Demand 3: after an opening that answered 0 and any list of calls, all seven parts hold. What holds after any list of calls
 -- (`Good`) holds after the opening and is kept by each call; the seven parts are read off it. Assumes nothing.
-use Prim.Native.Nat.{ℕ, zero, suc, _+_, _*_, _≤_, _<_}
-use mathlib.Core.Bool.{Bool, true, false}
+use Prim.Native.Nat.{ℕ, _+_, _*_, _≤_, _<_}
+use mathlib.Core.Bool.{false}
 use mathlib.Core.List.{List, [], _∷_}
-use mathlib.Core.Logic.{_≢_, _⊎_, inl, inr}
-use mathlib.Core.Option.{Option, none, some}
-use mathlib.Core.Path.{_≡_, refl, sym, _∙_, ap, subst}
+use mathlib.Core.Logic.{_≢_, inl, inr}
+use mathlib.Core.Path.{_≡_, refl, sym, _∙_, subst}
 use native.Mathlib.Omega.{arith}
-use lib.ListN.{length, getD-replicate, List·getD-eq-default}
-use Rattle.memory.specs.Limits.{register-count, in-range}
-use Rattle.memory.specs.Box.{Box, Word, Reply, reply, data-word, register}
+use lib.ListN.{getD-replicate}
+use Rattle.memory.specs.Limits.{register-count}
+use Rattle.memory.specs.Box.{Box, Word, Reply, data-word, register}
 use Rattle.memory.specs.Request.{request}
 use Rattle.memory.specs.Collector.{step}
 use Rattle.memory.specs.Run.{run}
 use Rattle.memory.specs.Open.{opened-state, opened, opening}
-use Rattle.history.specs.Machine.{HWord, History, fresh, datum, register-of, Call, ask, single-step, run-for, feed, grant, with-hold}
-use Rattle.history.specs.Calls.{Pending, Log, empty-log, World, start, log-step, after-request, after-step, after-run, play-call, play, CallInWidth, CallsInWidth}
+use Rattle.history.specs.Machine.{HWord, fresh, datum, register-of, Call, ask, single-step, run-for, feed}
+use Rattle.history.specs.Calls.{Pending, empty-log, World, start, log-step, after-request, after-step, after-run, play-call, play, CallInWidth, CallsInWidth}
 use Rattle.history.specs.Demand3.{Every, IfThere, InTime, Demand3, Demand3Claim}
-use Rattle.history.proofs.Invariant.Statement.{Ghosts, Inv, Kept, settled, moving, unswept, surviving}
+use Rattle.history.proofs.Invariant.Statement.{Inv, Kept, settled, moving, unswept, surviving}
 use Rattle.history.proofs.Invariant.Resting.{resting, resting-plan}
 use Rattle.history.proofs.Left.Bounds.{left-positive}
 use Rattle.history.proofs.Left.Count.{left}
@@ -26,7 +25,7 @@ use Rattle.history.proofs.Relation.Statement.{Match, Related, agree}
 use Rattle.history.proofs.Relation.Hold.{registers-fresh}
 use Rattle.history.proofs.Census.Directory.{rest-sum}
 use Rattle.history.proofs.Invariant.Theorems.{opened-by, invariant-open, words-above-top}
-use Rattle.history.proofs.Good.Statement.{Cycling, between, Held, Waiting, nothing-held, one-held, Past, Good}
+use Rattle.history.proofs.Good.Statement.{between, Waiting, nothing-held, one-held, Good}
 use Rattle.history.proofs.Good.Requests.{GoodReply, good-request}
 use Rattle.history.proofs.Good.Steps as steps
 use Rattle.history.proofs.Good.Steps.{After, GoodRun, good-run}

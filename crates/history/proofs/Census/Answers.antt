@@ -2,21 +2,21 @@
 -- dropped where they don't. The history machine does not change while a request is held, so reachable then is reachable now. What
 -- is reachable is in the directory, so room in the box means that it fits; and after a cycle begun under the hold the directory has
 -- the reachable tuples only, so no room means that it does not. Assumes nothing.
-use Prim.Native.Nat.{ℕ, zero, suc, _+_, _≤_, _<_}
-use mathlib.Core.List.{List, [], _∷_}
-use mathlib.Core.Logic.{_≢_, _⊎_, inl, inr}
-use mathlib.Core.Path.{_≡_, refl, sym, _∙_, ap, subst}
+use Prim.Native.Nat.{ℕ, _+_, _≤_, _<_}
+use mathlib.Core.List.{List}
+use mathlib.Core.Logic.{_≢_, _⊎_}
+use mathlib.Core.Path.{_≡_, refl, sym, subst}
 use native.Mathlib.Omega.{arith}
 use Rattle.memory.specs.Box.{Box}
 use Rattle.history.specs.Machine.{History, made}
 use Rattle.history.specs.Agreement.{Reachable, Member, Lists, Fits}
-use Rattle.history.specs.Calls.{Pending, Answered}
+use Rattle.history.specs.Calls.{Pending}
 use Rattle.history.specs.Demand3.{JustlyAnswered}
-use Rattle.history.proofs.Invariant.Statement.{Plan, Ghosts, Inv, Kept, unswept}
+use Rattle.history.proofs.Invariant.Statement.{Ghosts, Inv, Kept, unswept}
 use Rattle.history.proofs.Census.Reach.{reachable-list}
 use Rattle.history.proofs.Relation.Statement.{Related, Keeps, reached}
 use Rattle.history.proofs.Spared.Tracked.{Spared, reachable-then, made-since}
-use Rattle.history.proofs.Census.Directory.{alive, numbers, numbers-of, fits-if-room, no-fit}
+use Rattle.history.proofs.Census.Directory.{alive, numbers-of, fits-if-room, no-fit}
 
 module _ (b : Box) (g : Ghosts) (m : History) (given : List ℕ) (number : ℕ → ℕ) (v : Inv b g) (s : Related b (g .plan) m given number) where
   -- a reachable tuple was made

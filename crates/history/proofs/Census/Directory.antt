@@ -1,24 +1,23 @@
 -- The directory at rest, counted in the history machine: the tuples in it are those whose number their handle has; top is the room
 -- that they take; every other tuple made is gone. So the sum in Rest, and whether a held request fits. Assumes nothing.
-use Prim.Native.Nat.{ℕ, zero, suc, _+_, _-_, _≤_, _<_}
+use Prim.Native.Nat.{ℕ, suc, _+_, _-_, _≤_, _<_}
 use mathlib.Core.List.{List, [], _∷_, _++_}
-use mathlib.Core.Logic.{_≢_, _⊎_, inl, inr, _↔_}
+use mathlib.Core.Logic.{_≢_, _⊎_, inl, inr}
 use mathlib.Core.Path.{_≡_, refl, sym, _∙_, ap, ap₂, subst}
 use native.Mathlib.Omega.{arith}
 use lib.ListN.{length, length-append}
-use Rattle.memory.specs.Box.{Box, size-of, link}
+use Rattle.memory.specs.Box.{Box, size-of}
 use Rattle.history.specs.Machine.{History, size-at, made}
-use Rattle.history.specs.Agreement.{Reachable, handle-at, Listed, here, later, Gone, in-free-list, given-later, Member, Distinct, Lists, room, Fits}
-use Rattle.history.specs.Calls.{World, Pending, Answered}
-use Rattle.history.specs.Demand3.{IsNumber, RestSum, JustlyAnswered}
-use Rattle.history.proofs.Invariant.Statement.{Plan, Ghosts, Inv, all, Chain, Laid, rooms, Kept, settled, moving, unswept, surviving, Stage, Unswept}
+use Rattle.history.specs.Agreement.{Reachable, handle-at, Listed, Gone, in-free-list, given-later, Member, Distinct, Lists, room, Fits}
+use Rattle.history.specs.Calls.{World}
+use Rattle.history.specs.Demand3.{IsNumber, RestSum}
+use Rattle.history.proofs.Invariant.Statement.{Ghosts, Inv, rooms, Kept, settled, moving, unswept, surviving, Stage}
 use Rattle.history.proofs.Lists.Handles.{Parts, parts, Among, among, among-done, among-mid, among-ahead, among-free, among-member}
 use Rattle.history.proofs.Lists.Chain.{Headed, no-head, head-first, chain-headed, chain-empty}
-use Rattle.history.proofs.Lists.Laid.{laid-rooms, laid-from}
+use Rattle.history.proofs.Lists.Laid.{laid-rooms}
 use Rattle.history.proofs.Lists.Numbers.{minus, Within, minus-distinct, minus-member, minus-out, minus-in, minus-room, within-room, within-length, upto, upto-bounds, upto-member, upto-distinct}
-use Rattle.history.proofs.Census.Reach.{reachable-list}
 use Rattle.history.proofs.Relation.Statement.{Holds, Related, Keeps, reached}
-use Rattle.history.proofs.Spared.Tracked.{Spared, reachable-then, made-since, free-listed, listed-free}
+use Rattle.history.proofs.Spared.Tracked.{free-listed, listed-free}
 
 -- ---- the numbers of a list of handles
 

@@ -1,24 +1,22 @@
 -- A request leaves all as it should be, whatever it answers: refused it changes nothing, held only the hold, and carried out it does on
 -- both machines what its kind says. By cases on the view of requests. Assumes nothing.
-use Prim.Native.Nat.{ℕ, zero, suc, _+_, _*_, _≤_, _<_}
+use Prim.Native.Nat.{ℕ, suc, _+_, _*_, _≤_, _<_}
 use mathlib.Core.Bool.{Bool, true, false, true≢false, false≢true, cond}
-use mathlib.Core.List.{List, [], _∷_, _++_}
+use mathlib.Core.List.{[], _∷_, _++_}
 use mathlib.Core.Logic.{_≢_, _⊎_, inl, inr}
-use mathlib.Core.Option.{Option, none, some}
-use mathlib.Core.Path.{_≡_, refl, sym, _∙_, ap, ap₂, subst}
+use mathlib.Core.Option.{some}
+use mathlib.Core.Path.{_≡_, refl, sym, _∙_, ap, subst}
 use native.Mathlib.Omega.{arith}
-use borrow.Author.Tests.{ne-eqb}
-use lib.Dec.{ltb, eqb, lit<}
-use lib.ListN.{length}
+use lib.Dec.{ltb, lit<}
 use Rattle.memory.specs.declared.request.Request.{Request}
 use Rattle.memory.specs.declared.request.Request.the-variants.{Setd, Nil, Move, Advance, Getm, Load, Store, Size, Tag, Same}
 use Rattle.memory.specs.Limits.{register-count, half-word}
-use Rattle.memory.specs.Box.{Box, Word, Reply, reply, data-word, pointer, handle-of, offset-of, tag-of, names-tuple, register, put-register, size-of, marked, set-deep}
-use Rattle.memory.specs.Place.{Place, copy-place, at, place, read, write, shade}
-use Rattle.memory.specs.Request.{hold, new-entry, take-room, new-tuple, same-word, request}
-use Rattle.history.specs.Machine.{HWord, datum, pointer-to, Asked as Wanted, History, register-of, size-at, made, put-in, make, advance-by, load-from, store-to, size-to, tag-to, do-request, hold-request, with-hold, feed, Call, ask}
-use Rattle.history.specs.Calls.{Cycle, Pending, Log, given-by, disturb, pend, log-done, log-held, log-request, RequestInWidth}
-use Rattle.history.proofs.Invariant.Statement.{Plan, Scans, Ghosts, Inv, Kept}
+use Rattle.memory.specs.Box.{Box, Word, handle-of, names-tuple, register, put-register, marked, set-deep}
+use Rattle.memory.specs.Place.{Place, copy-place, at, write, shade}
+use Rattle.memory.specs.Request.{hold, new-entry, take-room, new-tuple}
+use Rattle.history.specs.Machine.{HWord, datum, pointer-to, History, register-of, size-at, made, put-in, make, advance-by, load-from, store-to, size-to, tag-to, do-request, hold-request, with-hold}
+use Rattle.history.specs.Calls.{Log, given-by, disturb, pend, log-done, log-held}
+use Rattle.history.proofs.Invariant.Statement.{Scans, Ghosts, Inv, Kept}
 use Rattle.history.proofs.View.Request.{named, number as number-in, place-of, There}
 use Rattle.history.proofs.Marking.Alike.{with-scans}
 use Rattle.history.proofs.Marking.Shade.{shade-scans, shade-alike, shade-steady}
@@ -42,7 +40,7 @@ use Rattle.history.proofs.Spared.Steps.{shade-marked-only}
 use Rattle.history.proofs.Spared.Requests.{tracked-in, tracked-asked, tracked-made}
 use Rattle.history.proofs.Spared.Tracked.{Spared, Tracked, root-spared}
 use Rattle.history.proofs.Good.Ending.{new-tuple-relation}
-use Rattle.history.proofs.Good.Statement.{UnderWay, Cycling, between, under-way, Held, Waiting, nothing-held, one-held, Past, Good}
+use Rattle.history.proofs.Good.Statement.{Cycling, between, under-way, Held, Waiting, nothing-held, one-held, Good}
 
 -- ---- the history machine's hold stays with a request carried out
 

@@ -1,12 +1,12 @@
 -- A step that ends a cycle leaves all as it should be, whether nothing is held, or the hold stays, is dropped or is granted. What was
 -- unreachable as the cycle started is gone, the cycle took no more steps than it may, and a hold that is answered is answered justly
 -- and in time. Assumes nothing.
-use Prim.Native.Nat.{ℕ, zero, suc, _+_, _*_, _≤_, _<_}
-use mathlib.Core.Bool.{Bool, true, false, true≢false}
+use Prim.Native.Nat.{ℕ, suc, _+_, _*_, _≤_, _<_}
+use mathlib.Core.Bool.{true, false, true≢false}
 use mathlib.Core.List.{List, [], _∷_, _++_}
 use mathlib.Core.Logic.{_≢_, _⊎_, inl, inr}
 use mathlib.Core.Option.{Option, none, some}
-use mathlib.Core.Path.{_≡_, refl, sym, _∙_, ap, ap₂, subst}
+use mathlib.Core.Path.{_≡_, refl, sym, _∙_, ap, subst}
 use native.Mathlib.Decide.{ℕ-discrete}
 use native.Mathlib.Omega.{arith}
 use lib.Dec.{lit<}
@@ -15,11 +15,10 @@ use Rattle.memory.specs.Box.{Box, handle-of, register}
 use Rattle.memory.specs.Request.{new-tuple}
 use Rattle.memory.specs.Collector.{at-rest, unheld, granted}
 use Rattle.history.specs.Machine.{Asked, History, made, make, with-hold, grant}
-use Rattle.history.specs.Agreement.{Reachable, Gone}
-use Rattle.history.specs.Calls.{Cycle, EndedCycle, Pending, Answered, Log, cycle-step, wait-step, end-log-cycle, answer-hold, given-held, log-ended, log-dropped, log-granted}
-use Rattle.history.specs.Demand3.{Every, IsNumber, Swept, JustlyAnswered}
-use Rattle.history.proofs.Invariant.Statement.{Plan, Ghosts, Inv, Kept}
-use Rattle.history.proofs.Invariant.Frame.{Calm, Next}
+use Rattle.history.specs.Calls.{Cycle, Pending, Answered, Log, cycle-step, wait-step, end-log-cycle, answer-hold, given-held, log-ended, log-dropped, log-granted}
+use Rattle.history.specs.Demand3.{Every, Swept, JustlyAnswered}
+use Rattle.history.proofs.Invariant.Statement.{Ghosts, Inv, Kept}
+use Rattle.history.proofs.Invariant.Frame.{Next}
 use Rattle.history.proofs.Left.Count.{left}
 use Rattle.history.proofs.Left.Bounds.{left-positive, left-bound-m}
 use Rattle.history.proofs.Asking.InRange.{free-bounds}

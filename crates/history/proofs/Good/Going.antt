@@ -1,25 +1,21 @@
 -- A step with which the cycle goes on leaves all as it should be: the history machine does not change, the cycle and the hold have
 -- one step more, and the steps left fall. Assumes nothing.
-use Prim.Native.Nat.{ℕ, zero, suc, _+_, _*_, _≤_, _<_}
-use mathlib.Core.Bool.{Bool, true, false, true≢false}
-use mathlib.Core.List.{List, [], _∷_}
-use mathlib.Core.Logic.{_≢_, _⊎_, inl, inr}
-use mathlib.Core.Option.{Option, none, some}
-use mathlib.Core.Path.{_≡_, refl, sym, _∙_, ap, subst}
+use Prim.Native.Nat.{ℕ, suc, _+_, _*_, _≤_, _<_}
+use mathlib.Core.Bool.{true, false, true≢false}
+use mathlib.Core.Logic.{_≢_}
+use mathlib.Core.Option.{none}
+use mathlib.Core.Path.{_≡_, refl, sym, _∙_, ap}
 use native.Mathlib.Omega.{arith}
-use borrow.Author.Tests.{eq-eqb, ne-eqb}
-use Rattle.memory.specs.Box.{Box, Reply, reply}
+use borrow.Author.Tests.{eq-eqb}
+use Rattle.memory.specs.Box.{Box}
 use Rattle.history.specs.Machine.{Asked, History}
-use Rattle.history.specs.Calls.{Cycle, Pending, Log, cycle-step, wait-step, log-going}
-use Rattle.history.proofs.Invariant.Statement.{Plan, Ghosts, Inv}
-use Rattle.history.proofs.Invariant.Frame.{Calm, Next}
+use Rattle.history.specs.Calls.{Pending, Log, cycle-step, wait-step, log-going}
+use Rattle.history.proofs.Invariant.Frame.{Next}
 use Rattle.history.proofs.Left.Count.{left}
 use Rattle.history.proofs.Left.Bounds.{left-bound}
-use Rattle.history.proofs.Relation.Statement.{Related}
 use Rattle.history.proofs.Relation.Still.{related-calm}
-use Rattle.history.proofs.Spared.Tracked.{Tracked}
 use Rattle.history.proofs.Invariant.Stepping.{SameHold, Track, starts, tracks}
-use Rattle.history.proofs.Good.Statement.{UnderWay, Cycling, between, under-way, Held, Waiting, nothing-held, one-held, Past, Good}
+use Rattle.history.proofs.Good.Statement.{Cycling, between, under-way, Held, Waiting, nothing-held, one-held, Good}
 
 module _ (m h : ℕ) (b : Box) (t : History) (l : Log) (k : Good m h b t l) (c : Box) (n : Next b (k .ghosts) c) (fall : left c (n .ghosts) < left b (k .ghosts)) (s : SameHold b c) where
   -- the cycle

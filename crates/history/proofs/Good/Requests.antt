@@ -1,24 +1,20 @@
 -- Every request leaves all as it should be, and none answers 9: by cases on the view of requests, each met by its lemma. Assumes
 -- nothing.
-use Prim.Native.Nat.{ℕ, zero, suc, _+_, _≤_, _<_}
-use mathlib.Core.Bool.{Bool, true, false, true≢false, false≢true, cond}
-use mathlib.Core.List.{List, [], _∷_}
-use mathlib.Core.Logic.{_≢_, _⊎_, inl, inr}
-use mathlib.Core.Path.{_≡_, refl, sym, _∙_, ap, subst}
+use Prim.Native.Nat.{ℕ, _+_, _≤_}
+use mathlib.Core.Bool.{true, false, true≢false, cond}
+use mathlib.Core.Logic.{_≢_}
+use mathlib.Core.Path.{sym, _∙_, subst}
 use native.Mathlib.Omega.{arith}
 use borrow.Author.Tests.{ne-eqb}
-use lib.Dec.{eqb}
 use Rattle.memory.specs.declared.request.Request.{Request}
 use Rattle.memory.specs.declared.request.Request.the-variants.{Setd, Nil, Move, Advance, Getm, Load, Store, Size, Tag, Same}
-use Rattle.memory.specs.Limits.{register-count, half-word}
-use Rattle.memory.specs.Box.{Box, Word, Reply, reply, data-word, pointer, handle-of, offset-of, tag-of, names-tuple, register, put-register, size-of, sound}
+use Rattle.memory.specs.Box.{Box, Reply, reply, data-word, pointer, offset-of, tag-of, register, size-of}
 use Rattle.memory.specs.Place.{place, read}
 use Rattle.memory.specs.Request.{same-word, request}
-use Rattle.history.specs.Machine.{History, feed, Call, ask, do-request}
+use Rattle.history.specs.Machine.{History, feed, ask, do-request}
 use Rattle.history.specs.Calls.{Log, given-by, log-request, RequestInWidth}
-use Rattle.history.proofs.Invariant.Statement.{Plan, Ghosts, Inv, Kept}
-use Rattle.history.proofs.View.Tests.{Entry}
-use Rattle.history.proofs.View.Request.{Asked, Loss, named, number as number-in, place-of, There, asked}
+use Rattle.history.proofs.Invariant.Statement.{Ghosts, Inv}
+use Rattle.history.proofs.View.Request.{Asked, Loss, named, number as number-in, place-of, asked}
 use Rattle.history.proofs.Marking.InRange.{root-room}
 use Rattle.history.proofs.Asking.InRange.{register-bounds, free-bounds, live-fits, place-in-memory, sound-box}
 use Rattle.history.proofs.Asking.Registers.{register-takes-data, register-takes-nil, register-takes-register, register-advances, register-loads}

@@ -1,7 +1,7 @@
 -- What holds of the box, the history machine and the log after any list of calls: the invariant, the relation with the history
 -- machine, what is known of the cycle under way and of the hold, and demand 3's claims about what has ended so far.
-use Prim.Native.Nat.{ℕ, zero, suc, _+_, _*_, _≤_, _<_}
-use mathlib.Core.Bool.{Bool, true, false}
+use Prim.Native.Nat.{ℕ, _+_, _*_, _≤_}
+use mathlib.Core.Bool.{true, false}
 use mathlib.Core.List.{List}
 use mathlib.Core.Logic.{_≢_}
 use mathlib.Core.Option.{Option, none, some}
@@ -12,7 +12,7 @@ use Rattle.memory.specs.Box.{Box}
 use Rattle.history.specs.Machine.{Asked, History}
 use Rattle.history.specs.Calls.{Cycle, EndedCycle, Pending, Answered, Log}
 use Rattle.history.specs.Demand3.{Every, Swept, JustlyAnswered}
-use Rattle.history.proofs.Invariant.Statement.{Plan, Ghosts, Inv}
+use Rattle.history.proofs.Invariant.Statement.{Ghosts, Inv}
 use Rattle.history.proofs.Left.Count.{left}
 use Rattle.history.proofs.Relation.Statement.{Related}
 use Rattle.history.proofs.Spared.Tracked.{Tracked}

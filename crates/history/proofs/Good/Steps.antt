@@ -1,23 +1,22 @@
 -- Every step leaves all as it should be and none answers 9; so does every run with a budget, which is so many single steps.
 -- Assumes nothing.
-use Prim.Native.Nat.{ℕ, zero, suc, _+_, _≤_, _<_}
-use mathlib.Core.Bool.{Bool, true, false, true≢false, cond}
-use mathlib.Core.List.{List, [], _∷_}
+use Prim.Native.Nat.{ℕ, zero, suc, _≤_, _<_}
+use mathlib.Core.Bool.{true, false, true≢false}
 use mathlib.Core.Logic.{_≢_, _⊎_, inl, inr}
-use mathlib.Core.Option.{Option, none, some}
+use mathlib.Core.Option.{Option, none}
 use mathlib.Core.Path.{_≡_, refl, sym, _∙_, ap, subst}
 use native.Mathlib.Omega.{arith}
 use Rattle.memory.specs.Limits.{register-count}
-use Rattle.memory.specs.Box.{Box, Reply, reply, sound}
-use Rattle.memory.specs.Collector.{at-rest, unheld, granted, end-cycle, step}
+use Rattle.memory.specs.Box.{Box, Reply}
+use Rattle.memory.specs.Collector.{at-rest, end-cycle, step}
 use Rattle.memory.specs.Run.{Ran, ran, counted, Course, goes-on as going-on, stops, refuses, course, run-on, run}
-use Rattle.history.specs.Machine.{Asked, History, grant, with-hold, feed, Call, single-step, run-for}
-use Rattle.history.specs.Calls.{Log, log-going, log-ended, log-granted, log-dropped, log-step, log-steps}
-use Rattle.history.proofs.Invariant.Statement.{Plan, Ghosts, Inv, Kept}
+use Rattle.history.specs.Machine.{Asked, History, grant, with-hold, feed, run-for}
+use Rattle.history.specs.Calls.{Log, log-step, log-steps}
+use Rattle.history.proofs.Invariant.Statement.{Ghosts, Inv}
 use Rattle.history.proofs.Invariant.Frame.{Next}
-use Rattle.history.proofs.View.Tests.{Entry, NoRoom}
+use Rattle.history.proofs.View.Tests.{Entry}
 use Rattle.history.proofs.View.End.{Ending, ending}
-use Rattle.history.proofs.Invariant.Stepping.{SameHold, Track, EndsSpared, Stepped, stepped}
+use Rattle.history.proofs.Invariant.Stepping.{SameHold, EndsSpared, Stepped, stepped}
 use Rattle.history.proofs.Asking.InRange.{free-bounds, sound-box}
 use Rattle.history.proofs.Good.Statement.{Waiting, nothing-held, one-held, Good}
 use Rattle.history.proofs.Good.Going.{good-on}

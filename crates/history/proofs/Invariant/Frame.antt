@@ -3,14 +3,13 @@
 -- transition promises of the tuples that are kept; it carries the contents over, and later the agreement with the history
 -- machine. Assumes nothing.
 use Prim.Native.Nat.{ℕ, suc, _+_, _≤_, _<_}
-use mathlib.Core.Bool.{Bool, true, false}
-use mathlib.Core.List.{List, []}
-use mathlib.Core.Logic.{_⊎_, inl, inr}
-use mathlib.Core.Path.{_≡_, refl, sym, _∙_, ap, ap₂, subst}
+use mathlib.Core.Bool.{true}
+use mathlib.Core.List.{List}
+use mathlib.Core.Path.{_≡_, sym, _∙_, ap, ap₂, subst}
 use native.Mathlib.Omega.{arith}
 use lib.ListN.{length}
 use Rattle.memory.specs.Limits.{half-word, register-count}
-use Rattle.memory.specs.Box.{Box, Word, data-word, handle-of, names-tuple, word-at, register, address, size-of, marked, deep}
+use Rattle.memory.specs.Box.{Box, Word, handle-of, names-tuple, word-at, register, address, size-of, marked, deep}
 use Rattle.history.specs.Agreement.{Member}
 use Rattle.history.proofs.Invariant.Statement.{Plan, Scans, Ghosts, Inv, all, listed, word, rooms, marked-rooms, Chain, Kept, settled, moving, unswept, surviving, Shape, Handles, Layout, Contents, Zero, Marks}
 use Rattle.history.proofs.Lists.Handles.{Perm, perm-member, perm-sym, perm-distinct, perm-length}

@@ -1,6 +1,6 @@
 -- A cycle's end: once every tuple left is settled, the box at rest has the invariant, with all of them ahead. Each group of
 -- clauses is rebuilt from what the last transition of the cycle shows. Assumes nothing.
-use Prim.Native.Nat.{ℕ, _+_, _≤_, _<_}
+use Prim.Native.Nat.{ℕ, _≤_}
 use mathlib.Core.Bool.{true, false, false≢true}
 use mathlib.Core.List.{List, []}
 use mathlib.Core.Path.{_≡_, refl, sym, _∙_}
@@ -8,7 +8,7 @@ use native.Mathlib.Omega.{arith}
 use Rattle.memory.specs.Box.{Box, data-word, word-at, marked}
 use Rattle.memory.specs.Collector.{at-rest}
 use Rattle.history.specs.Agreement.{Member}
-use Rattle.history.proofs.Invariant.Statement.{Plan, Scans, Ghosts, Inv, Laid, Shape, Handles, Layout, Contents, Zero, Marks, Stage, Unswept, Unlisted, rooms, marked-rooms}
+use Rattle.history.proofs.Invariant.Statement.{Plan, Ghosts, Inv, Laid, Shape, Handles, Layout, Contents, Zero, Marks, Stage, rooms}
 use Rattle.history.proofs.Lists.Laid.{marked-rooms-none, laid-frame}
 
 -- every tuple ahead, from word 0

@@ -1,9 +1,9 @@
 -- The invariant of every grown box, over the box and its ghosts. Ghosts are carried beside the box and changed by rule, never
 -- recomputed from it. The clauses stand in groups; only `Stage` goes by the phase, and the others hold alike in every phase.
-use Prim.Native.Nat.{ℕ, zero, suc, _+_, _≤_, _<_}
-use mathlib.Core.Bool.{Bool, true, false, cond}
+use Prim.Native.Nat.{ℕ, suc, _+_, _≤_, _<_}
+use mathlib.Core.Bool.{true, false, cond}
 use mathlib.Core.List.{List, [], _∷_, _++_}
-use mathlib.Core.Logic.{_≢_, _⊎_}
+use mathlib.Core.Logic.{_⊎_}
 use mathlib.Core.Path.{_≡_}
 use lib.ListN.{length, getD}
 use Rattle.memory.specs.Limits.{half-word, register-count, in-range}

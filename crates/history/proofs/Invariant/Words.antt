@@ -6,7 +6,7 @@ use mathlib.Core.Logic.{_≢_}
 use mathlib.Core.Path.{_≡_, refl}
 use borrow.Author.Tests.{le-leb, lt-leb, lt-ltb, le-ltb, eq-eqb, ne-eqb}
 use native.Mathlib.Omega.{arith}
-use Rattle.memory.specs.Box.{Box, Word, word-at, copy-register, address}
+use Rattle.memory.specs.Box.{Box, word-at, copy-register, address}
 use Rattle.memory.specs.Place.{being-moved, place, read}
 use Rattle.history.proofs.Invariant.Statement.{word}
 

@@ -2,7 +2,7 @@
 -- that the history machine puts there. A word of the history machine that matches a pointer is a pointer; what it names is the
 -- number of a kept tuple, and so has its size, tag and words. Assumes nothing.
 use Prim.Native.Nat.{ℕ, _+_, _*_, _/_, _%_, _<_}
-use mathlib.Core.Bool.{Bool, true, false, not, cond, _&&_, and-true, and-false}
+use mathlib.Core.Bool.{Bool, true, not, cond, _&&_, and-true, and-false}
 use mathlib.Core.List.{List}
 use mathlib.Core.Logic.{_≢_, _⊎_, inl, inr}
 use mathlib.Core.Path.{_≡_, refl, sym, _∙_, ap, ap₂, subst}

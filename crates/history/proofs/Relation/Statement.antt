@@ -1,18 +1,17 @@
 -- The relation between a box and the history machine, and that it gives agreement as document 01 defines it. `number` is, for each
 -- handle, the number of the last tuple that had it; `given` the handle of each tuple made. Everything reachable in the history
 -- machine is the number of a kept tuple, by induction on the path. Assumes nothing.
-use Prim.Native.Nat.{ℕ, zero, suc, _+_, _≤_, _<_}
-use mathlib.Core.Bool.{Bool, true, false, not, _&&_}
-use mathlib.Core.List.{List, [], _∷_}
-use mathlib.Core.Logic.{_≢_, _⊎_}
-use mathlib.Core.Path.{_≡_, refl, sym, _∙_, ap, subst}
+use Prim.Native.Nat.{ℕ, _+_, _≤_, _<_}
+use mathlib.Core.Bool.{true, false}
+use mathlib.Core.List.{List}
+use mathlib.Core.Logic.{_≢_}
+use mathlib.Core.Path.{_≡_, sym, _∙_, ap, subst}
 use native.Mathlib.Decide.{ℕ-discrete}
 use native.Mathlib.Omega.{arith}
 use borrow.Author.Tests.{ne-eqb}
-use lib.ListN.{length, getD}
+use lib.ListN.{length}
 use Rattle.memory.specs.Limits.{register-count}
 use Rattle.memory.specs.Box.{Box, Word, handle-of, offset-of, tag-of, names-tuple, register, size-of}
-use Rattle.memory.specs.Place.{place, read}
 use Rattle.history.specs.Machine.{HWord, datum, pointer-to, History, register-of, tuple-of, size-at, word-of, made}
 use Rattle.history.specs.Agreement.{Reachable, by-register, by-word, handle-at, Matches, Under, Agree}
 use Rattle.history.proofs.Invariant.Statement.{Plan, word, Kept, Contents}

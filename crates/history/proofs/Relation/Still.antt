@@ -1,18 +1,18 @@
 -- The relation with the history machine is kept where nothing that it speaks of changes: by every step of the collector that
 -- makes no tuple (`Calm`), and by a request that writes a register. Assumes nothing.
-use Prim.Native.Nat.{ℕ, zero, suc, _+_, _≤_, _<_, zero-le}
-use mathlib.Core.Bool.{Bool, true, false}
-use mathlib.Core.List.{List, [], _∷_}
+use Prim.Native.Nat.{ℕ, _+_, _≤_, _<_, zero-le}
+use mathlib.Core.Bool.{false}
+use mathlib.Core.List.{List}
 use mathlib.Core.Logic.{_≢_}
 use mathlib.Core.Path.{_≡_, refl, sym, _∙_, ap, subst}
 use native.Mathlib.Decide.{ℕ-discrete}
 use native.Mathlib.Omega.{arith}
-use lib.ListN.{length, getD, set}
+use lib.ListN.{length}
 use lib.Seq.{getD-set-same, getD-set-other}
 use Rattle.memory.specs.Limits.{register-count}
 use Rattle.memory.specs.Box.{Box, Word, tag-of, register, put-register, size-of}
 use Rattle.memory.specs.Place.{Place, copy-place, at, being-moved, place, read}
-use Rattle.history.specs.Machine.{HWord, datum, History, register-of, put-in, word-of, size-at}
+use Rattle.history.specs.Machine.{HWord, datum, History, register-of, put-in, word-of}
 use Rattle.history.proofs.Invariant.Statement.{Plan, word, Kept, settled, moving, unswept, surviving}
 use Rattle.history.proofs.Invariant.Frame.{Calm}
 use Rattle.history.proofs.Relation.Statement.{Match, Holds, Related}

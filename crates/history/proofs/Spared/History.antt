@@ -1,10 +1,10 @@
 -- The tuples that a cycle may keep hold the registers' targets and are closed under pointers in the history machine, and every
 -- request leaves it so: it moves and stores only what a register or a word of such a tuple names, or makes a tuple, which is one of
 -- them. Assumes nothing.
-use Prim.Native.Nat.{ℕ, zero, suc, _+_, _≤_, _<_}
+use Prim.Native.Nat.{ℕ, suc, _+_, _≤_, _<_}
 use mathlib.Core.Bool.{Bool, true, false, cond}
-use mathlib.Core.List.{List, [], _∷_, _++_}
-use mathlib.Core.Logic.{_≢_, _⊎_, inl, inr}
+use mathlib.Core.List.{List}
+use mathlib.Core.Logic.{_≢_}
 use mathlib.Core.Path.{_≡_, refl, sym, _∙_, ap, subst}
 use native.Mathlib.Decide.{ℕ-discrete, decLe, decLt}
 use native.Mathlib.Omega.{arith}
@@ -15,10 +15,10 @@ use lib.Seq.{getD-set-same, getD-set-other, set-out}
 use Rattle.memory.specs.declared.request.Request.{Request}
 use Rattle.memory.specs.declared.request.Request.the-variants.{Setd, Nil, Move, Advance, Getm, Load, Store, Size, Tag, Same}
 use Rattle.memory.specs.Limits.{register-count}
-use Rattle.history.specs.Machine.{HWord, datum, pointer-to, HTuple, History, register-of, nil-tuple, tuple-of, size-at, word-of, made, put-in, make, set-word, rewrite-tuple, advance-by, load-from, store-to, size-to, tag-to, same-hword, do-request}
-use Rattle.history.proofs.Relation.NewTuple.{made-make, tuple-old, tuple-new, register-other-of}
+use Rattle.history.specs.Machine.{HWord, datum, pointer-to, HTuple, History, register-of, tuple-of, size-at, word-of, made, put-in, make, rewrite-tuple, advance-by, load-from, store-to, size-to, tag-to, same-hword, do-request}
+use Rattle.history.proofs.Relation.NewTuple.{made-make, tuple-old, tuple-new}
 use Rattle.history.proofs.Relation.Store.{stored-in, made-stored, tuple-stored, tuple-not-stored}
-use Rattle.history.proofs.Spared.Tracked.{Spared, reachable-then, made-since, size-beyond}
+use Rattle.history.proofs.Spared.Tracked.{Spared, made-since, size-beyond}
 
 pub record SparedIn (m started : History) : Type 0 where
   pub not-fewer : made started ≤ made m

@@ -1,10 +1,10 @@
 -- A request in the middle of a cycle leaves what the cycle may keep as it is, in the box and in the history machine: it marks only
 -- what a register names or a tuple that it makes. Assumes nothing.
-use Prim.Native.Nat.{ℕ, zero, suc, _+_, _≤_, _<_}
-use mathlib.Core.Bool.{Bool, true, false}
-use mathlib.Core.List.{List, [], _∷_, _++_}
+use Prim.Native.Nat.{ℕ, suc, _+_, _≤_, _<_}
+use mathlib.Core.Bool.{true}
+use mathlib.Core.List.{[], _∷_}
 use mathlib.Core.Logic.{_≢_, _⊎_, inl, inr}
-use mathlib.Core.Path.{_≡_, refl, sym, _∙_, ap, subst}
+use mathlib.Core.Path.{_≡_, sym, _∙_, subst}
 use native.Mathlib.Decide.{ℕ-discrete}
 use native.Mathlib.Omega.{arith}
 use Rattle.memory.specs.Limits.{register-count}
@@ -14,9 +14,8 @@ use Rattle.history.specs.Machine.{History, made, make}
 use Rattle.history.specs.Agreement.{Member}
 use Rattle.history.specs.Calls.{In16}
 use Rattle.history.proofs.Invariant.Statement.{Plan, Ghosts, Inv, Kept}
-use Rattle.history.proofs.Lists.Handles.{member-cases, parts}
-use Rattle.history.proofs.Marking.Stages.{Adding, adding-of}
-use Rattle.history.proofs.Asking.InRange.{free-listed, free-bounds}
+use Rattle.history.proofs.Lists.Handles.{member-cases}
+use Rattle.history.proofs.Asking.InRange.{free-bounds}
 use Rattle.history.proofs.Asking.NewTuple.{New, new-box, Made, made-plan, new-tuple-made}
 use Rattle.history.proofs.Relation.NewTuple.{renumbered, renumbered-same, renumbered-other}
 use Rattle.history.proofs.Spared.Tracked.{Spared, made-since, Tracked}

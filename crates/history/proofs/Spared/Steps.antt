@@ -1,25 +1,22 @@
 -- The collector's transitions mark and keep only what the cycle may keep. By phase: marking shades what a register or a word of a
 -- spared tuple names; the sweep begins with the marked tuples, and keeps no other after that. Assumes nothing.
-use Prim.Native.Nat.{ℕ, zero, suc, _+_, _-_, _≤_, _<_}
-use mathlib.Core.Bool.{Bool, true, false, cond, false≢true}
-use mathlib.Core.List.{List, [], _∷_, _++_}
+use Prim.Native.Nat.{ℕ, _+_, _-_, _≤_}
+use mathlib.Core.Bool.{Bool, true, false, cond}
+use mathlib.Core.List.{List, [], _++_}
 use mathlib.Core.Logic.{_≢_, _⊎_, inl, inr}
-use mathlib.Core.Path.{_≡_, refl, sym, _∙_, ap, ap₂, subst}
+use mathlib.Core.Path.{_≡_, refl, sym, _∙_, ap₂, subst}
 use native.Mathlib.Decide.{ℕ-discrete}
 use native.Mathlib.Omega.{arith}
-use lib.ListN.{length, set}
-use lib.Seq.{getD-set-same, getD-set-other}
-use Rattle.memory.specs.Limits.{register-count}
-use Rattle.memory.specs.Box.{Box, Word, handle-of, names-tuple, register, size-of, address, word-at, marked, deep}
+use lib.Seq.{getD-set-other}
+use Rattle.memory.specs.Box.{Box, Word, handle-of, names-tuple, size-of, word-at, marked, deep}
 use Rattle.memory.specs.Place.{list-next, mark-live, shade}
-use Rattle.memory.specs.Collector.{begin-sweep}
-use Rattle.history.specs.Machine.{History, made}
+use Rattle.history.specs.Machine.{History}
 use Rattle.history.specs.Agreement.{Member}
 use Rattle.history.proofs.Invariant.Statement.{Plan, Ghosts, Inv, listed, word, Kept, settled, moving, unswept, surviving, Stage, Unswept, Scan}
 use Rattle.history.proofs.Invariant.Frame.{Calm}
 use Rattle.history.proofs.Invariant.Words.{word-early}
 use Rattle.history.proofs.Relation.Statement.{Related}
-use Rattle.history.proofs.Spared.Tracked.{Spared, Tracked, tracked-on, tracked-start, root-spared, word-spared}
+use Rattle.history.proofs.Spared.Tracked.{Spared, Tracked, tracked-on, tracked-start, word-spared}
 
 -- ---- what the stage says of the plan
 

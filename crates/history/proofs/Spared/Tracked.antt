@@ -2,18 +2,18 @@
 -- and those made since, hold the registers' targets and are closed under pointers, as long as the cycle lasts; what the collector
 -- marks, and then keeps, is among them. At its end every tuple of the directory was kept, so any other tuple has its handle in the
 -- free list or given to a later one. Assumes nothing.
-use Prim.Native.Nat.{ℕ, zero, suc, _+_, _≤_, _<_}
+use Prim.Native.Nat.{ℕ, _+_, _≤_, _<_}
 use mathlib.Core.Bool.{Bool, true, false, false≢true}
 use mathlib.Core.List.{List, [], _∷_}
-use mathlib.Core.Logic.{_≢_, _⊎_, inl, inr}
+use mathlib.Core.Logic.{_≢_, inl, inr}
 use mathlib.Core.Path.{_≡_, refl, sym, _∙_, ap, subst}
 use native.Mathlib.Omega.{arith}
-use lib.ListN.{length, getD, List·getD-eq-default}
+use lib.ListN.{length, List·getD-eq-default}
 use Rattle.memory.specs.Limits.{register-count}
 use Rattle.memory.specs.Box.{Box, Word, handle-of, names-tuple, register, size-of, link, marked}
-use Rattle.history.specs.Machine.{HWord, datum, pointer-to, History, register-of, nil-tuple, tuple-of, size-at, word-of, made}
+use Rattle.history.specs.Machine.{HWord, datum, pointer-to, History, register-of, nil-tuple, size-at, word-of, made}
 use Rattle.history.specs.Agreement.{Reachable, by-register, by-word, handle-at, Listed, here, later, Gone, in-free-list, given-later, Member}
-use Rattle.history.proofs.Invariant.Statement.{Plan, Ghosts, Inv, all, word, Chain, Kept, settled, moving, unswept, surviving, Contents}
+use Rattle.history.proofs.Invariant.Statement.{Plan, Ghosts, Inv, word, Chain, Kept, settled, moving, unswept, Contents}
 use Rattle.history.proofs.Lists.Handles.{Among, among, among-done, among-mid, among-ahead, among-free, among-member}
 use Rattle.history.proofs.Relation.Statement.{Match, Holds, Related}
 
