@@ -6,4 +6,3 @@ pub mod MoveBegins
 pub mod Release
 pub mod Zeroing
 pub mod InRange
-pub mod Built

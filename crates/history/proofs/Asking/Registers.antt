@@ -12,7 +12,7 @@ use lib.Dec.{eqb}
 use lib.ListN.{length-set}
 use lib.Seq.{getD-set-same, getD-set-other}
 use Rattle.memory.specs.Limits.{half-word, register-count}
-use Rattle.memory.specs.Box.{Box, Word, data-word, pointer, handle-of, offset-of, is-nil, names-tuple, register, put-register, size-of, deep}
+use Rattle.memory.specs.Box.{Box, Word, data-word, pointer, handle-of, offset-of, names-tuple, register, put-register, size-of, deep}
 use Rattle.memory.specs.Place.{Place, copy-place, at, being-moved, place, read}
 use Rattle.memory.specs.Request.{hold}
 use Rattle.memory.specs.Collector.{unheld}
@@ -26,9 +26,6 @@ use Rattle.history.proofs.Asking.Steady.{Steady, steady-inv, steady-kep
 -- a pointer's handle, its offset being of 16 bits
 pub pointer-handle : (h o : ℕ) → o < half-word → handle-of (pointer h o) ≡ h
 pointer-handle h o l = omega (arith, mul-add-div-right {m = half-word} (omega arith) h o, div-eq-of-lt {n = o} {m = half-word} l)
-
-pub names-true : (w : Word) → w .flag ≡ true → is-nil w ≡ false → names-tuple w ≡ true
-names-true w f n = simp (f, n)
 
 -- a pointer with the handle of another names a tuple where that does
 pub names-alike : (v w : Word) → v .flag ≡ w .flag → handle-of v ≡ handle-of w → names-tuple v ≡ names-tuple w
@@ -130,10 +127,6 @@ register-advances b g v r n l f u = register-takes b g v r (pointer (handle-of (
 
     kept : names-tuple (pointer (handle-of (register r b)) (offset-of (register r b) + n)) ≡ true → Kept b (g .plan) (handle-of (pointer (handle-of (register r b)) (offset-of (register r b) + n)))
     kept t = subst (λ (h : ℕ). Kept b (g .plan) h) (sym same) (v .contents .roots-kept r l (sym (names-alike (pointer (handle-of (register r b)) (offset-of (register r b) + n)) (register r b) (sym f) same) ∙ t))
-
--- the tuple that a register points to is kept
-pub pointed-kept : (b : Box) (g : Ghosts) → Inv b g → (s : ℕ) → s < register-count → register s b .flag ≡ true → is-nil (register s b) ≡ false → Kept b (g .plan) (handle-of (register s b))
-pointed-kept b g v s u f n = v .contents .roots-kept s u (names-true (register s b) f n)
 
 -- LOAD: a word of a kept tuple
 pub register-loads : (b : Box) (g : Ghosts) → Inv b g → (r h n : ℕ) → r < register-count → Kept b (g .plan) h → n < size-of h b → Inv (put-register r (read (place h (n + 1) b) b) b) g

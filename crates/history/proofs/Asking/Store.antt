@@ -2,26 +2,20 @@
 -- Each of the three keeps the invariant by itself. A black tuple stays black, since by then its new target is marked; in Rest no
 -- tuple is marked, and from the sweep on no clause asks for it. Assumes nothing.
 use Prim.Native.Nat.{ℕ, _+_, _≤_, _<_}
-use mathlib.Core.Bool.{Bool, true, false, cond, _&&_, true≢false, false≢true}
+use mathlib.Core.Bool.{true, false, true≢false, false≢true}
 use mathlib.Core.Logic.{_⊎_, inl, inr}
 use mathlib.Core.Path.{_≡_, refl, sym, _∙_, subst}
-use borrow.Author.Tests.{leb-true, le-leb}
 use native.Mathlib.Omega.{arith}
-use native.Mathlib.Decide.{decLe}
-use lib.Dec.{leb}
-use Rattle.memory.specs.Limits.{register-count}
 use Rattle.memory.specs.Box.{Box, Word, handle-of, names-tuple, register, size-of, marked, set-deep}
-use Rattle.memory.specs.Place.{Place, place, write, can-shade, shade}
-use Rattle.memory.specs.Request.{shades, shaded-first, deepened}
+use Rattle.memory.specs.Place.{Place, place, write, shade}
 use Rattle.history.specs.Agreement.{Member}
-use Rattle.history.proofs.Invariant.Statement.{Plan, Scans, Ghosts, Inv, word, Kept, settled, moving, unswept, surviving}
+use Rattle.history.proofs.Invariant.Statement.{Plan, Ghosts, Inv, word, Kept, settled, moving, unswept, surviving}
 use Rattle.history.proofs.Invariant.Frame.{Quiet}
 use Rattle.history.proofs.Marking.Alike.{address-alike, with-scans}
 use Rattle.history.proofs.Marking.Shade.{Steady, shade-scans, shade-alike, shade-steady, shade-mark, shade-quiet, shade-inv}
 use Rattle.history.proofs.Marking.Stages.{rests-of, unswept-of, kept-ahead}
-use Rattle.history.proofs.Asking.Tests.{and-left, and-right}
 use Rattle.history.proofs.Asking.Places.{place-by}
-use Rattle.history.proofs.Asking.InRange.{kept-bounds, ahead-shades}
+use Rattle.history.proofs.Asking.InRange.{kept-bounds}
 use Rattle.history.proofs.Asking.Steady.{steady-kept-from, steady-kept-to}
 use Rattle.history.proofs.Asking.Write.{Stored, written-inv, written-stored, deepen-inv, deepen-deep, deepen-word, deepen-place, deepen-steady}
 
@@ -32,22 +26,6 @@ pub record Shades (w : Word) (b : Box) : Type 0 where
   pub names : names-tuple w ≡ true
   pub phase-least : 1 ≤ b .state .phase
   pub phase-most : b .state .phase ≤ 3
-
-pub shades-true : (w : Word) (b : Box) → shades w b ≡ true → Shades w b
-unfolding shades
-shades-true w b e =
-    let f : (names-tuple w && leb 1 (b .state .phase)) ≡ true = and-left (names-tuple w && leb 1 (b .state .phase)) (leb (b .state .phase) 3) e in
-    record { names = and-left (names-tuple w) (leb 1 (b .state .phase)) f; phase-least = leb-true 1 (b .state .phase) (and-right (names-tuple w) (leb 1 (b .state .phase)) f); phase-most = leb-true (b .state .phase) 3 (and-right (names-tuple w && leb 1 (b .state .phase)) (leb (b .state .phase) 3) e) }
-
-shades-then : (w : Word) (b : Box) → Shades w b → shades w b ≡ true
-unfolding shades
-shades-then w b s = simp (s .names, le-leb 1 (b .state .phase) (s .phase-least), le-leb (b .state .phase) 3 (s .phase-most))
-
--- what a STORE shades can be shaded
-pub store-shades : (b : Box) (g : Ghosts) → Inv b g → (w : Word) → (names-tuple w ≡ true → Kept b (g .plan) (handle-of w)) → shades w b ≡ true → can-shade (handle-of w) b ≡ true
-store-shades b g v w f e =
-    let s : Shades w b = shades-true w b e in
-    ahead-shades b g v (handle-of w) (kept-ahead b g (handle-of w) (unswept-of b g (v .stage) (s .phase-most)) (f (s .names)))
 
 -- ---- a change after one that leaves registers, sizes and words alone
 
@@ -84,13 +62,6 @@ rest-unmarked b g v e h (settled x) = v .marks .done-unmarked h x
 rest-unmarked b g v e h (moving x) = v .marks .mid-unmarked h x
 rest-unmarked b g v e h (unswept x p) = rests-of b g (v .stage) e .unmarked h x
 rest-unmarked b g v e h (surviving x m) = rests-of b g (v .stage) e .unmarked h x
-
-unshaded-safe : (b : Box) (g : Ghosts) → Inv b g → (h : ℕ) → Kept b (g .plan) h → (w : Word) → names-tuple w ≡ true → shades w b ≡ false → b .state .phase ≤ 3 → marked h b ≡ true → marked (handle-of w) b ≡ true
-unshaded-safe b g v h k w n s p m = cases (decLe 1 (b .state .phase))
-  where
-    cases : Dec (1 ≤ b .state .phase) → marked (handle-of w) b ≡ true
-    cases (yes l) = absurd (true≢false (sym (shades-then w b (record { names = n; phase-least = l; phase-most = p })) ∙ s))
-    cases (no l) = absurd (true≢false (sym m ∙ rest-unmarked b g v (omega arith) h k))
 
 -- ---- while a cycle marks: the target is shaded first
 
@@ -156,45 +127,3 @@ module _ (b : Box) (g : Ghosts) (v : Inv b g) (h n : ℕ) (k : Kept b (g .plan) 
   shaded-stored = shaded-write-stored b g v h n k l w
 
 -- ---- all cases
-
--- those that wait for a scan after it
-unfoldable pub stored-scans : Word → Box → Scans → Scans
-stored-scans w b s = cond (shades w b) (shade-scans (handle-of w) b s) s
-
-abbrev pub stored-ghosts : Word → Box → Ghosts → Ghosts
-stored-ghosts w b g = with-scans (stored-scans w b (g .scans)) g
-
--- the box that STORE leaves
-abbrev pub store-box : Word → ℕ → ℕ → Box → Box
-store-box w h n b = write (place h (n + 1) b) w (deepened w h (shaded-first w b))
-
--- by what its two tests are: t, that the word names a tuple, and s, that it shades
-abbrev by-tests : Bool → Bool → Word → ℕ → ℕ → Box → Box
-by-tests t s w h n b = write (place h (n + 1) b) w (cond t (set-deep h true (cond s (shade (handle-of w) b) b)) (cond s (shade (handle-of w) b) b))
-
-tested-inv : (b : Box) (g : Ghosts) → Inv b g → (h n : ℕ) → Kept b (g .plan) h → n < size-of h b → (w : Word) → (names-tuple w ≡ true → Kept b (g .plan) (handle-of w)) → (t s : Bool) → names-tuple w ≡ t → shades w b ≡ s → Inv (by-tests t s w h n b) (with-scans (cond s (shade-scans (handle-of w) b (g .scans)) (g .scans)) g)
-tested-inv b g v h n k l w f true true e d = stores-shaded b g v h n k l w (f e) (shades-true w b d)
-tested-inv b g v h n k l w f true false e d = deep-write-inv b g v h n k l w (f e) (unshaded-safe b g v h k w e d)
-tested-inv b g v h n k l w f false true e d = absurd (false≢true (sym e ∙ shades-true w b d .names))
-tested-inv b g v h n k l w f false false e d = stores-data b g v h n k l w e
-
-tested-stored : (b : Box) (g : Ghosts) → Inv b g → (h n : ℕ) → Kept b (g .plan) h → n < size-of h b → (w : Word) → (names-tuple w ≡ true → Kept b (g .plan) (handle-of w)) → (t s : Bool) → names-tuple w ≡ t → shades w b ≡ s → Stored b (g .plan) (by-tests t s w h n b) (g .plan) h n w
-tested-stored b g v h n k l w f true true e d = shaded-write-stored b g v h n k l w (f e) (shades-true w b d)
-tested-stored b g v h n k l w f true false e d = deep-write-stored b g v h n k l w
-tested-stored b g v h n k l w f false true e d = absurd (false≢true (sym e ∙ shades-true w b d .names))
-tested-stored b g v h n k l w f false false e d = written-stored b g v h n k l w
-
-pub invariant-store : (b : Box) (g : Ghosts) → Inv b g → (h n : ℕ) → Kept b (g .plan) h → n < size-of h b → (w : Word) → (names-tuple w ≡ true → Kept b (g .plan) (handle-of w)) → Inv (store-box w h n b) (stored-ghosts w b g)
-unfolding deepened shaded-first stored-scans
-invariant-store b g v h n k l w f = tested-inv b g v h n k l w f (names-tuple w) (shades w b) refl refl
-
-pub store-stored : (b : Box) (g : Ghosts) → Inv b g → (h n : ℕ) → Kept b (g .plan) h → n < size-of h b → (w : Word) → (names-tuple w ≡ true → Kept b (g .plan) (handle-of w)) → Stored b (g .plan) (store-box w h n b) (g .plan) h n w
-unfolding deepened shaded-first
-store-stored b g v h n k l w f = tested-stored b g v h n k l w f (names-tuple w) (shades w b) refl refl
-
--- a register is stored, which may name a kept tuple only
-pub register-stores : (b : Box) (g : Ghosts) → Inv b g → (r h n : ℕ) → r < register-count → Kept b (g .plan) h → n < size-of h b → Inv (store-box (register r b) h n b) (stored-ghosts (register r b) b g)
-register-stores b g v r h n u k l = invariant-store b g v h n k l (register r b) (v .contents .roots-kept r u)
-
-pub register-stored : (b : Box) (g : Ghosts) → Inv b g → (r h n : ℕ) → r < register-count → Kept b (g .plan) h → n < size-of h b → Stored b (g .plan) (store-box (register r b) h n b) (g .plan) h n (register r b)
-register-stored b g v r h n u k l = store-stored b g v h n k l (register r b) (v .contents .roots-kept r u)

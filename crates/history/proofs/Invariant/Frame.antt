@@ -90,10 +90,6 @@ quiet-contents b p c q s i = record { roots-kept = roots; words-kept = inside }
         let f = i .words-kept h kb k lb (subst (λ (w : Word). names-tuple w ≡ true) e n) in
         (subst (λ (w : Word). Kept c q (handle-of w)) (sym e) (s .kept-from (handle-of (word h (k + 1) b)) (f .0)), s .deeps-same h kb ∙ f .1)
 
--- one transition after another
-pub quiet-then : (b : Box) (p : Plan) (c : Box) (q : Plan) (d : Box) (r : Plan) → Quiet b p c q → Quiet c q d r → Quiet b p d r
-quiet-then b p c q d r s t = record { kept-to = λ h k. s .kept-to h (t .kept-to h k); kept-from = λ h k. t .kept-from h (s .kept-from h k); roots-same = λ x. t .roots-same x ∙ s .roots-same x; sizes-same = λ h k. t .sizes-same h (s .kept-from h k) ∙ s .sizes-same h k; words-same = λ h k i l. t .words-same h (s .kept-from h k) i (subst (λ (z : ℕ). i ≤ z) (sym (s .sizes-same h k)) l) ∙ s .words-same h k i l; deeps-same = λ h k. t .deeps-same h (s .kept-from h k) ∙ s .deeps-same h k }
-
 -- what the history machine needs of a transition, also of the one that begins the sweep, where fewer tuples are kept
 pub record Calm (b : Box) (p : Plan) (c : Box) (q : Plan) : Type 0 where
   pub kept-to : (h : ℕ) → Kept c q h → Kept b p h

@@ -31,11 +31,6 @@ pub record Finished (c : Box) (hs free : List ℕ) : Type 0 where
   pub no-next : c .state .next ≡ 0
   pub no-current : c .state .current ≡ 0
 
--- the parts of the box at rest that are read below
-rest-marked : (h : ℕ) (c : Box) → marked h (at-rest c) ≡ marked h c
-unfolding at-rest
-rest-marked h c = refl
-
 rest-shape : (c : Box) → Shape c → Shape (at-rest c)
 unfolding at-rest
 rest-shape c s = record { range = s .range; words-length = s .words-length; flags-length = s .flags-length; addresses-length = s .addresses-length; sizes-length = s .sizes-length; links-length = s .links-length; marks-length = s .marks-length; deeps-length = s .deeps-length; registers-length = s .registers-length; register-flags-length = s .register-flags-length; held-register = s .held-register }

@@ -7,50 +7,22 @@ use mathlib.Core.List.{List}
 use mathlib.Core.Logic.{_≢_, inl}
 use mathlib.Core.Path.{_≡_, refl, sym, _∙_, subst}
 use native.Mathlib.Omega.{arith}
-use borrow.Author.Tests.{lt-ltb, le-ltb}
 use lib.Seq.{getD-set-other}
 use Rattle.memory.specs.Limits.{register-count}
-use Rattle.memory.specs.State.{with-dest, with-next, with-size}
-use Rattle.memory.specs.Box.{Box, Word, data-word, handle-of, names-tuple, with-state, word-at, put, register, copy-register, size-of, marked, deep, set-mark}
+use Rattle.memory.specs.State.{with-next}
+use Rattle.memory.specs.Box.{Box, Word, data-word, handle-of, names-tuple, with-state, word-at, put, register, copy-register, marked, deep}
 use Rattle.memory.specs.Place.{list-next, mark-live, shade}
-use Rattle.memory.specs.Collector.{to-phase, after, note-begun, rest, scan, begin-sweep, scan-word, go-on, start-move, free-tuple, start-zero, settle-move, copy-word, write-copy, zero-word}
+use Rattle.memory.specs.Collector.{to-phase, after, scan, begin-sweep, go-on, settle-move, write-copy, zero-word}
 use Rattle.history.specs.Agreement.{Member}
 use Rattle.history.proofs.Invariant.Statement.{Ghosts, Inv, Kept, settled, moving, unswept, surviving, Stage, at-rest, finding, scanning, adding, sweeping, reading, clearing, writing, zeroing, Unswept, Move}
 use Rattle.history.proofs.Lists.Handles.{parts, member-differs}
 use Rattle.history.proofs.Invariant.Fixed.{unswept-stage}
 use Rattle.history.proofs.Left.Count.{left}
 use Rattle.history.proofs.Left.Falls.{SamePlace}
-use Rattle.history.proofs.Left.Marks.{SameHeap, Listing, unlisted, listed-first, ShadedBox, left-rests, left-takes-next, left-shades-root, left-begins-sweep, left-scans-data, left-scans-pointer, left-scan-ends, left-takes-current, left-adds-marked, left-adds-unmarked}
-use Rattle.history.proofs.Left.Sweeps.{move-within, left-sweeps-on, left-starts-move, left-starts-zero, left-copies-high, left-copies-low, left-moves-on, left-clears, left-writes, left-zeroes, left-zero-on}
+use Rattle.history.proofs.Left.Marks.{Listing, unlisted, listed-first, ShadedBox, left-takes-next, left-shades-root, left-begins-sweep, left-scan-ends, left-takes-current, left-adds-marked, left-adds-unmarked}
+use Rattle.history.proofs.Left.Sweeps.{move-within, left-moves-on, left-clears, left-writes, left-zeroes, left-zero-on}
 
 -- ---- 0
-
--- only the state changes, whether or not a hold notes that the cycle begins
-rest-heap : (b : Box) → SameHeap b (rest b .box)
-unfolding rest note-begun
-rest-heap b = go (b .state .held) refl
-  where
-    go : (t : Bool) → b .state .held ≡ t → SameHeap b (rest b .box)
-    go true e = record { addresses-are = simp e; sizes-are = simp e; words-are = simp e; flags-are = simp e; top-is = simp e }
-    go false e = record { addresses-are = simp e; sizes-are = simp e; words-are = simp e; flags-are = simp e; top-is = simp e }
-
-record RestNumbers (c : Box) : Type 0 where
-  phase-is : c .state .phase ≡ 1
-  next-is : c .state .next ≡ 0
-  current-is : c .state .current ≡ 0
-
-rest-numbers : (b : Box) → RestNumbers (rest b .box)
-unfolding rest note-begun
-rest-numbers b = go (b .state .held) refl
-  where
-    go : (t : Bool) → b .state .held ≡ t → RestNumbers (rest b .box)
-    go true e = record { phase-is = simp e; next-is = simp e; current-is = simp e }
-    go false e = record { phase-is = simp e; next-is = simp e; current-is = simp e }
-
-pub fewer-rests : (b : Box) (g g′ : Ghosts) → Inv b g → b .state .phase ≡ 0 → Inv (rest b .box) g′ → left (rest b .box) g′ < left b g
-fewer-rests b g g′ v p w =
-    let n : RestNumbers (rest b .box) = rest-numbers b in
-    left-rests b g (rest b .box) g′ v w p (n .phase-is) (rest-heap b) (n .next-is) (n .current-is)
 
 -- ---- 1
 
@@ -112,24 +84,6 @@ fewer-begins-sweep b g g′ v p w = left-begins-sweep b g (begin-sweep b) g′ v
 
 -- ---- 2
 
-pub fewer-scans-data : (b : Box) (g g′ : Ghosts) → Inv b g → b .state .phase ≡ 2 → b .state .index ≤ b .state .size
-    → names-tuple (word-at (b .state .src + b .state .index) b) ≡ false → Inv (scan-word b) g′ → left (scan-word b) g′ < left b g
-unfolding scan-word
-fewer-scans-data b g g′ v p l f w =
-    left-scans-data b g (scan-word b) g′ v w p (simp (f, p))
-    (record { heap = record { addresses-are = simp f; sizes-are = simp f; words-are = simp f; flags-are = simp f; top-is = simp f }; marks-are = simp f; links-are = simp f })
-    (record { next-is = simp f; current-is = simp f })
-    (record { size = simp f; index = simp f; within = l })
-
-pub fewer-scans-pointer : (b : Box) (g g′ : Ghosts) → Inv b g → b .state .phase ≡ 2 → b .state .index ≤ b .state .size
-    → names-tuple (word-at (b .state .src + b .state .index) b) ≡ true → Inv (scan-word b) g′ → left (scan-word b) g′ < left b g
-unfolding scan-word
-fewer-scans-pointer b g g′ v p l f w =
-    left-scans-pointer b g (scan-word b) g′ v w p (simp f)
-    (record { heap = record { addresses-are = simp f; sizes-are = simp f; words-are = simp f; flags-are = simp f; top-is = simp f }; marks-are = simp f; links-are = simp f })
-    (record { next-is = simp f; current-is = simp f })
-    (record { size = simp f; index = simp f; within = l })
-
 pub fewer-scan-ends : (b : Box) (g g′ : Ghosts) → Inv b g → b .state .phase ≡ 2 → Inv (to-phase 1 b) g′ → left (to-phase 1 b) g′ < left b g
 fewer-scan-ends b g g′ v p w = left-scan-ends b g (to-phase 1 b) g′ v w p refl (search) (search)
 
@@ -183,46 +137,7 @@ fewer-adds-unmarked b g g′ v p f w =
 
 -- ---- 4
 
--- the box with the size of the tuple at src from its entry
-abbrev pub sized : Box → Box
-sized b = with-state (with-size (size-of (b .state .tuple) b) (b .state)) b
-
--- a tuple is kept in place
-abbrev pub in-place : Box → Box
-in-place b = set-mark (b .state .tuple) false (with-state (with-dest (after (sized b)) (sized b .state)) (sized b))
-
-pub fewer-keeps : (b : Box) (g g′ : Ghosts) → Inv b g → b .state .phase ≡ 4
-    → Inv (go-on (after (sized b)) (in-place b)) g′ → left (go-on (after (sized b)) (in-place b)) g′ < left b g
-unfolding go-on
-fewer-keeps b g g′ v p w = left-sweeps-on b g (go-on (after (sized b)) (in-place b)) g′ v w p refl (search) refl
-
-pub fewer-starts-move : (b : Box) (g g′ : Ghosts) → Inv b g → b .state .phase ≡ 4 → Inv (start-move (sized b)) g′ → left (start-move (sized b)) g′ < left b g
-unfolding start-move
-fewer-starts-move b g g′ v p w = left-starts-move b g (start-move (sized b)) g′ v w p refl (search) refl refl
-
-pub fewer-releases : (b : Box) (g g′ : Ghosts) → Inv b g → b .state .phase ≡ 4
-    → Inv (go-on (after (sized b)) (free-tuple (sized b))) g′ → left (go-on (after (sized b)) (free-tuple (sized b))) g′ < left b g
-unfolding go-on free-tuple
-fewer-releases b g g′ v p w = left-sweeps-on b g (go-on (after (sized b)) (free-tuple (sized b))) g′ v w p refl (search) refl
-
-pub fewer-starts-zero : (b : Box) (g g′ : Ghosts) → Inv b g → b .state .phase ≡ 4
-    → Inv (start-zero (free-tuple (sized b))) g′ → left (start-zero (free-tuple (sized b))) g′ < left b g
-unfolding start-zero free-tuple
-fewer-starts-zero b g g′ v p w = left-starts-zero b g (start-zero (free-tuple (sized b))) g′ v w p refl (search) refl refl
-
 -- ---- 5
-
-pub fewer-copies-high : (b : Box) (g g′ : Ghosts) → Inv b g → b .state .phase ≡ 5 → b .state .live ≤ b .state .src + b .state .index
-    → Inv (copy-word (b .state .src + b .state .index) b) g′ → left (copy-word (b .state .src + b .state .index) b) g′ < left b g
-unfolding copy-word
-fewer-copies-high b g g′ v p l w =
-    left-copies-high b g (copy-word (b .state .src + b .state .index) b) g′ v w p (simp (le-ltb (b .state .src + b .state .index) (b .state .live) l)) (search) refl (search)
-
-pub fewer-copies-low : (b : Box) (g g′ : Ghosts) → Inv b g → b .state .phase ≡ 5 → b .state .src + b .state .index < b .state .live
-    → Inv (copy-word (b .state .src + b .state .index) b) g′ → left (copy-word (b .state .src + b .state .index) b) g′ < left b g
-unfolding copy-word
-fewer-copies-low b g g′ v p l w =
-    left-copies-low b g (copy-word (b .state .src + b .state .index) b) g′ v w p (simp (lt-ltb (b .state .src + b .state .index) (b .state .live) l)) (search) refl (search)
 
 -- the tuple that is moved, and where to
 moving-stage : (b : Box) (g : Ghosts) → Inv b g → 5 ≤ b .state .phase → b .state .phase ≤ 7 → Move b g

@@ -57,10 +57,6 @@ left-same b g c g′ v w s h o p e =
     ap (λ (n : ℕ). left-in n c g′) p ∙
     left-in-same (b .state .phase) b g c g′ (record { same = record { sizes = same-sizes b c (s .heap); ahead = ahead }; marks = same-marks b c s }) (same-lists b g c g′ v w s h) o
 
--- the count goes by the box alone
-pub left-fixed : (b : Box) (g g′ : Ghosts) → Inv b g → Inv b g′ → left b g′ ≡ left b g
-left-fixed b g g′ v w = left-same b g b g′ v w (search) (search) (search) refl refl
-
 -- a request is put on hold
 pub left-held : (r n tag : ℕ) (b : Box) (g g′ : Ghosts) → Inv b g → Inv (hold r n tag b) g′ → left (hold r n tag b) g′ ≡ left b g
 unfolding hold

@@ -25,9 +25,6 @@ pub chain-push : (links : List ℕ) (head : ℕ) (hs : List ℕ) (y : ℕ) → C
 chain-push links head hs y c out fits =
     (refl, subst (λ (n : ℕ). Chain (set links y head) n hs) (sym (getD-set-same links y head 0 fits)) (chain-set-other links head hs y head out c))
 
-pub chain-from : (links : List ℕ) (head head′ : ℕ) (hs : List ℕ) → head ≡ head′ → Chain links head hs → Chain links head′ hs
-chain-from links head head′ hs e c = subst (λ (n : ℕ). Chain links n hs) e c
-
 -- what a chain's head says of it: 0, and it has no members; otherwise the head is its first
 pub data Headed (links : List ℕ) (head : ℕ) (hs : List ℕ) : Type 0 where
   no-head : head ≡ 0 → hs ≡ [] → Headed links head hs
@@ -44,9 +41,6 @@ chain-head links head hs c some-head = cases (chain-headed links head hs c)
     cases : Headed links head hs → (tl : List ℕ) × (hs ≡ head ∷ tl) × Chain links (getD links head 0) tl
     cases (no-head e f) = absurd (some-head e)
     cases (head-first tl e d) = (tl, e, d)
-
-pub chain-tail : (links : List ℕ) (head h : ℕ) (hs : List ℕ) → Chain links head (h ∷ hs) → Chain links (getD links head 0) hs
-chain-tail links head h hs c = subst (λ (k : ℕ). Chain links (getD links k 0) hs) (sym (c .0)) (c .1)
 
 pub chain-empty : (links : List ℕ) (head : ℕ) (hs : List ℕ) → Chain links head hs → ((h : ℕ) → Member h hs → 1 ≤ h) → head ≡ 0 → hs ≡ []
 chain-empty links head [] c least e = refl

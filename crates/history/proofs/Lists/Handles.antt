@@ -1,7 +1,7 @@
 -- Lists of handles: membership in and distinctness of an appended list, permutations and what they keep, and the moves of one
 -- handle between the four parts of `all` (done, mid, ahead, free). Each by induction on a list or on a permutation. Assumes nothing.
 use Prim.Native.Nat.{ℕ, suc}
-use mathlib.Core.List.{List, [], _∷_, _++_, append-nil, append-assoc}
+use mathlib.Core.List.{List, [], _∷_, _++_, append-assoc}
 use mathlib.Core.Logic.{_≢_, _⊎_, inl, inr}
 use mathlib.Core.Path.{_≡_, refl, sym, ap, _∙_, subst}
 use native.Mathlib.Decide.{ℕ-discrete}
@@ -32,13 +32,6 @@ member-cases x (y ∷ xs) ys (inr m) = later (member-cases x xs ys m)
     later (inl n) = inl (inr n)
     later (inr n) = inr n
 
-pub not-member-append : (x : ℕ) (xs ys : List ℕ) → ¬ Member x xs → ¬ Member x ys → ¬ Member x (xs ++ ys)
-not-member-append x xs ys f g m = cases (member-cases x xs ys m)
-  where
-    cases : Member x xs ⊎ Member x ys → ⊥
-    cases (inl n) = f n
-    cases (inr n) = g n
-
 pub member? : (x : ℕ) (xs : List ℕ) → Dec (Member x xs)
 member? x [] = no (λ m. m)
 member? x (y ∷ ys) = decide (ℕ-discrete x y) (member? x ys)
@@ -57,10 +50,6 @@ pub member-differs : (x y : ℕ) (xs : List ℕ) → Member x xs → ¬ Member y
 member-differs x y xs m f e = f (member-equal y x xs (sym e) m)
 
 -- ---- distinctness
-
-pub distinct-append : (xs ys : List ℕ) → Distinct xs → Distinct ys → ((x : ℕ) → Member x xs → ¬ Member x ys) → Distinct (xs ++ ys)
-distinct-append [] ys d e apart = e
-distinct-append (x ∷ xs) ys d e apart = (not-member-append x xs ys (d .0) (apart x (inl refl)), distinct-append xs ys (d .1) e (λ z m. apart z (inr m)))
 
 pub distinct-left : (xs ys : List ℕ) → Distinct (xs ++ ys) → Distinct xs
 distinct-left [] ys d = tt
@@ -125,22 +114,9 @@ pub perm-append-left : (zs : List ℕ) {xs ys : List ℕ} → Perm xs ys → Per
 perm-append-left [] p = p
 perm-append-left (z ∷ zs) p = perm-cons (perm-append-left zs p)
 
-pub perm-append-right : (zs : List ℕ) {xs ys : List ℕ} → Perm xs ys → Perm (xs ++ zs) (ys ++ zs)
-perm-append-right zs perm-nil = perm-refl zs
-perm-append-right zs (perm-cons p) = perm-cons (perm-append-right zs p)
-perm-append-right zs perm-swap = perm-swap
-perm-append-right zs (perm-trans p q) = perm-trans (perm-append-right zs p) (perm-append-right zs q)
-
-pub perm-append : {ws xs ys zs : List ℕ} → Perm ws xs → Perm ys zs → Perm (ws ++ ys) (xs ++ zs)
-perm-append {xs = xs} {ys = ys} p q = perm-trans (perm-append-right ys p) (perm-append-left xs q)
-
 pub perm-shift : (x : ℕ) (xs ys : List ℕ) → Perm (xs ++ x ∷ ys) (x ∷ (xs ++ ys))
 perm-shift x [] ys = perm-refl (x ∷ ys)
 perm-shift x (z ∷ xs) ys = perm-trans (perm-cons (perm-shift x xs ys)) perm-swap
-
-pub perm-swap-append : (xs ys : List ℕ) → Perm (xs ++ ys) (ys ++ xs)
-perm-swap-append [] ys = perm-equal (sym (append-nil ys))
-perm-swap-append (x ∷ xs) ys = perm-trans (perm-cons (perm-swap-append xs ys)) (perm-sym (perm-shift x ys xs))
 
 -- ---- the moves of one handle h between done, mid, ahead and free
 

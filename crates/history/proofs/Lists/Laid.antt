@@ -44,12 +44,6 @@ laid-bounds b a (k ∷ hs) e l h (inr m) = wider (laid-bounds b (a + size-of k b
     wider : (a + size-of k b + 1 ≤ address h b) × (address h b + size-of h b + 1 ≤ e) → (a ≤ address h b) × (address h b + size-of h b + 1 ≤ e)
     wider w = (omega (arith, w .0), w .1)
 
-pub laid-control : (b : Box) (a : ℕ) (hs : List ℕ) (e : ℕ) → Laid b a hs e → (h : ℕ) → Member h hs → Control (word-at (address h b) b) h
-laid-control b a [] e l h m = absurd m
-laid-control b a (k ∷ hs) e l h (inl p) =
-    subst (λ (n : ℕ). Control (word-at (address n b) b) n) (sym p) (subst (λ (n : ℕ). Control (word-at n b) k) (sym (l .0)) (l .1))
-laid-control b a (k ∷ hs) e l h (inr m) = laid-control b (a + size-of k b + 1) hs e (l .2) h m
-
 -- no two meet
 pub laid-apart : (b : Box) (a : ℕ) (hs : List ℕ) (e : ℕ) → Laid b a hs e → (h k : ℕ) → Member h hs → Member k hs → h ≢ k
     → (address h b + size-of h b + 1 ≤ address k b) ⊎ (address k b + size-of k b + 1 ≤ address h b)
@@ -88,12 +82,6 @@ laid-words b c a hs e addresses sizes words l = laid-frame b c a hs e addresses 
 
 -- ---- parts of a layout
 
-pub laid-split : (b : Box) (a : ℕ) (xs ys : List ℕ) (e : ℕ) → Laid b a (xs ++ ys) e → (m : ℕ) × Laid b a xs m × Laid b m ys e
-laid-split b a [] ys e l = (a, refl, l)
-laid-split b a (x ∷ xs) ys e l =
-    let t : (m : ℕ) × Laid b (a + size-of x b + 1) xs m × Laid b m ys e = laid-split b (a + size-of x b + 1) xs ys e (l .2) in
-    (t .0, (l .0, l .1, t .1), t .2)
-
 pub laid-join : (b : Box) (a : ℕ) (xs : List ℕ) (m : ℕ) (ys : List ℕ) (e : ℕ) → Laid b a xs m → Laid b m ys e → Laid b a (xs ++ ys) e
 laid-join b a [] m ys e l k = laid-from b m a ys e (sym l) k
 laid-join b a (x ∷ xs) m ys e l k = (l .0, l .1, laid-join b (a + size-of x b + 1) xs m ys e (l .2) k)
@@ -125,11 +113,6 @@ laid-front b a (h ∷ hs) e l f = record { first = h; rest = hs; is-cons = refl;
 
 -- ---- sums of sizes
 
-pub rooms-append : (b : Box) (xs ys : List ℕ) → rooms b (xs ++ ys) ≡ rooms b xs + rooms b ys
-unfolding rooms
-rooms-append b [] ys = omega arith
-rooms-append b (x ∷ xs) ys = omega (arith, rooms-append b xs ys)
-
 pub rooms-frame : (b c : Box) (hs : List ℕ) → ((h : ℕ) → Member h hs → size-of h c ≡ size-of h b) → rooms c hs ≡ rooms b hs
 unfolding rooms
 rooms-frame b c [] sizes = refl
@@ -139,12 +122,6 @@ rooms-frame b c (h ∷ hs) sizes = omega (arith, sizes h (inl refl), rooms-frame
 pub rooms-one : (b : Box) (h : ℕ) → rooms b (h ∷ []) ≡ size-of h b + 1
 unfolding rooms
 rooms-one b h = omega arith
-
-pub rooms-member : (b : Box) (hs : List ℕ) (h : ℕ) → Member h hs → size-of h b + 1 ≤ rooms b hs
-unfolding rooms
-rooms-member b [] h m = absurd m
-rooms-member b (k ∷ hs) h (inl p) = subst (λ (n : ℕ). size-of n b + 1 ≤ size-of k b + 1 + rooms b hs) (sym p) (omega arith)
-rooms-member b (k ∷ hs) h (inr m) = omega (arith, rooms-member b hs h m)
 
 -- ---- sums of sizes over the marked
 
@@ -194,20 +171,6 @@ pub marked-rooms-none : (b : Box) (hs : List ℕ) → ((h : ℕ) → Member h hs
 unfolding marked-rooms
 marked-rooms-none b [] unmarked = refl
 marked-rooms-none b (h ∷ hs) unmarked = omega (arith, share-false (marked h b) (size-of h b + 1) (unmarked h (inl refl)), marked-rooms-none b hs (λ k m. unmarked k (inr m)))
-
-pub marked-rooms-all : (b : Box) (hs : List ℕ) → ((h : ℕ) → Member h hs → marked h b ≡ true) → marked-rooms b hs ≡ rooms b hs
-unfolding rooms marked-rooms
-marked-rooms-all b [] all-marked = refl
-marked-rooms-all b (h ∷ hs) all-marked = omega (arith, share-true (marked h b) (size-of h b + 1) (all-marked h (inl refl)), marked-rooms-all b hs (λ k m. all-marked k (inr m)))
-
--- a marked tuple takes its room of the sum, an unmarked one leaves it
-pub marked-room : (b : Box) (hs : List ℕ) (h : ℕ) → Member h hs → marked h b ≡ true → size-of h b + 1 ≤ marked-rooms b hs
-unfolding marked-rooms
-marked-room b [] h m t = absurd m
-marked-room b (k ∷ hs) h (inl p) t =
-    subst (λ (n : ℕ). size-of n b + 1 ≤ cond (marked k b) (size-of k b + 1) 0 + marked-rooms b hs) (sym p)
-    (omega (arith, share-true (marked k b) (size-of k b + 1) (subst (λ (n : ℕ). marked n b ≡ true) p t)))
-marked-room b (k ∷ hs) h (inr m) t = omega (arith, marked-room b hs h m t)
 
 pub unmarked-room : (b : Box) (hs : List ℕ) (h : ℕ) → Member h hs → marked h b ≡ false → marked-rooms b hs + (size-of h b + 1) ≤ rooms b hs
 unfolding rooms marked-rooms

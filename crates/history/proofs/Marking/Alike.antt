@@ -74,10 +74,6 @@ handles-alike b c p free s ch = handles-same b c p free (s .h-is) (subst (λ (n 
 pub layout-alike : (b c : Box) (p : Plan) → Alike b c → Layout b p → Layout c p
 layout-alike b c p s = layout-same b c p (address-alike b c s) (size-alike b c s) (word-at-alike b c s) (s .top-is) (s .m-is)
 
--- words from live on are zero: also from a greater live on
-pub zero-alike : (b c : Box) (z : ℕ) → Alike b c → b .state .live ≤ c .state .live → Zero b z → Zero c z
-zero-alike b c z s l i = record { above-top = λ a u. word-at-alike b c s a ∙ i .above-top a (rw (s .top-is) at u); behind = λ a u v. word-at-alike b c s a ∙ i .behind a (omega arith) v }
-
 -- before the sweep no zero words are claimed below top
 pub zero-unswept : (b c : Box) (z : ℕ) → Alike b c → z ≡ 0 → Zero b z → Zero c z
 zero-unswept b c z s e i = record { above-top = λ a u. word-at-alike b c s a ∙ i .above-top a (rw (s .top-is) at u); behind = λ a u v. absurd (omega arith) }

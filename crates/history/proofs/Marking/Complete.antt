@@ -14,10 +14,10 @@ use Rattle.history.proofs.Invariant.Statement.{Plan, Ghosts, Inv, all, 
 use Rattle.history.proofs.Lists.Handles.{member-left, member-right, perm-equal}
 use Rattle.history.proofs.Lists.Chain.{chain-empty, chain-none}
 use Rattle.history.proofs.Lists.Laid.{Front, laid-front, laid-from, laid-none}
-use Rattle.history.proofs.Invariant.Frame.{handles-moved, marks-same, Calm, Next}
+use Rattle.history.proofs.Invariant.Frame.{handles-moved, marks-same, Calm}
 use Rattle.history.proofs.Invariant.Resting.{resting-plan, resting, Finished, finished}
 use Rattle.history.proofs.Marking.Stages.{Finds, finds-of, kept-ahead}
-use Rattle.history.proofs.Marking.Alike.{Alike, alike-state, register-alike, word-alike, shape-alike, handles-alike, layout-alike, zero-unswept, kept-alike, Onward, onward-next}
+use Rattle.history.proofs.Marking.Alike.{Alike, alike-state, register-alike, word-alike, shape-alike, handles-alike, layout-alike, zero-unswept, kept-alike, Onward}
 use Rattle.history.proofs.Marking.Start.{listed-none}
 use Rattle.history.proofs.Marking.Shade.{ahead-entry}
 
@@ -100,9 +100,6 @@ begins-sweep-onward b g i e z roots t =
     first-is : g .plan .ahead ≡ handle-of (word-at 0 b) ∷ front .rest
     first-is = front .is-cons ∙ ap (λ (h : ℕ). h ∷ front .rest) (front .named)
 
-pub begins-sweep : (b : Box) (g : Ghosts) → Inv b g → b .state .phase ≡ 1 → b .state .next ≡ 0 → RootsMarked b → b .state .top ≢ 0 → Next b g (begin-sweep b)
-begins-sweep b g i e z roots t = onward-next b g (begin-sweep b) (g .scans) (begins-sweep-onward b g i e z roots t)
-
 -- ---- nothing to sweep
 
 -- with top 0 there is no tuple
@@ -151,6 +148,3 @@ ends-empty-inv b g i e z t = finished b [] (g .free) (ends-empty-finished b g i 
 pub ends-empty-calm : (b : Box) (p : Plan) → Calm b p (at-rest b) (resting-plan [])
 unfolding at-rest
 ends-empty-calm b p = record { kept-to = λ h x. absurd (none-kept (at-rest b) h x); roots-same = λ r. refl; sizes-same = λ h x. refl; words-same = λ h x. absurd (none-kept (at-rest b) h x) }
-
-pub ends-empty : (b : Box) (g : Ghosts) → Inv b g → b .state .phase ≡ 1 → b .state .next ≡ 0 → b .state .top ≡ 0 → Next b g (at-rest b)
-ends-empty b g i e z t = record { ghosts = resting [] (g .free); inv = ends-empty-inv b g i e z t; calm = ends-empty-calm b (g .plan) }

@@ -13,12 +13,12 @@ use lib.Seq.{getD-set-same, getD-set-other}
 use Rattle.memory.specs.Box.{Box, Word, handle-of, names-tuple, size-of, marked, deep}
 use Rattle.memory.specs.Place.{list-next, mark-live, shade}
 use Rattle.history.specs.Agreement.{Member, Distinct}
-use Rattle.history.proofs.Invariant.Statement.{Plan, Scans, Ghosts, Inv, listed, word, marked-rooms, Chain, Kept, unswept, Shape, Handles, Layout, Contents, Zero, Marks, Scan, Stage, at-rest, finding, scanning, adding, sweeping, reading, clearing, writing, zeroing}
+use Rattle.history.proofs.Invariant.Statement.{Plan, Scans, Ghosts, Inv, listed, word, marked-rooms, Chain, Kept, unswept, Shape, Handles, Contents, Marks, Scan, Stage, at-rest, finding, scanning, adding, sweeping, reading, clearing, writing, zeroing}
 use Rattle.history.proofs.Lists.Handles.{member-left, member-right, perm-shift, perm-sym, perm-distinct, perm-member, Parts, parts, among-member, among-ahead}
 use Rattle.history.proofs.Lists.Chain.{chain-push, chain-set-other}
 use Rattle.history.proofs.Lists.Laid.{rooms-frame, marked-rooms-mark}
 use Rattle.history.proofs.Invariant.Frame.{Quiet}
-use Rattle.history.proofs.Marking.Alike.{Alike, address-alike, size-alike, deep-alike, word-alike, shape-alike, handles-alike, layout-alike, zero-alike, quiet-alike, Black, black-alike, with-scans, none-wait, unswept-scans, inv-alike}
+use Rattle.history.proofs.Marking.Alike.{Alike, address-alike, size-alike, deep-alike, word-alike, quiet-alike, Black, black-alike, with-scans, none-wait, unswept-scans, inv-alike}
 
 -- ---- what shading does, by the three cases of its rule
 
@@ -67,12 +67,6 @@ unfolding list-next mark-live
 shaded-steady (already e) = record { phase-is = refl; current-is = refl; src-is = refl; dest-is = refl; tuple-is = refl; size-is = refl; index-is = refl }
 shaded-steady (listing e f) = record { phase-is = refl; current-is = refl; src-is = refl; dest-is = refl; tuple-is = refl; size-is = refl; index-is = refl }
 shaded-steady (counting e f) = record { phase-is = refl; current-is = refl; src-is = refl; dest-is = refl; tuple-is = refl; size-is = refl; index-is = refl }
-
-shaded-live : {h : ℕ} {b : Box} {s : Scans} {c : Box} {s′ : Scans} → Shaded h b s c s′ → b .state .live ≤ c .state .live
-unfolding list-next mark-live
-shaded-live (already e) = omega arith
-shaded-live (listing e f) = omega arith
-shaded-live (counting e f) = omega arith
 
 -- ---- the marks and the links
 
@@ -261,38 +255,13 @@ shade-alike h b = shaded-alike (shaded h b none-wait)
 pub shade-steady : (h : ℕ) (b : Box) → Steady b (shade h b)
 shade-steady h b = shaded-steady (shaded h b none-wait)
 
-pub shade-live : (h : ℕ) (b : Box) → b .state .live ≤ (shade h b) .state .live
-shade-live h b = shaded-live (shaded h b none-wait)
-
 -- h is marked, marks stay, and no other is set
 pub shade-mark : (h : ℕ) (b : Box) → Shape b → h < b .state .h → marked h (shade h b) ≡ true
 shade-mark h b sp l = shaded-mark (shaded h b none-wait) (subst (λ (n : ℕ). h < n) (sym (sp .marks-length)) l)
 
-pub shade-keeps : (h : ℕ) (b : Box) → Shape b → h < b .state .h → (k : ℕ) → marked k b ≡ true → marked k (shade h b) ≡ true
-shade-keeps h b sp l = shaded-keeps (shaded h b none-wait) (subst (λ (n : ℕ). h < n) (sym (sp .marks-length)) l)
-
-pub shade-others : (h : ℕ) (b : Box) (k : ℕ) → k ≢ h → marked k (shade h b) ≡ marked k b
-shade-others h b = shaded-others (shaded h b none-wait)
-
--- a tuple that waited waits still
-pub shade-waits : (h : ℕ) (b : Box) (s : Scans) (k : ℕ) → Member k (listed s) → Member k (listed (shade-scans h b s))
-shade-waits h b s = shaded-waits (shaded h b s)
-
-pub shade-shape : (h : ℕ) (b : Box) → Shape b → Shape (shade h b)
-shade-shape h b = shape-alike b (shade h b) (shade-alike h b)
-
 -- a free handle is no tuple ahead
 pub shade-free : (h : ℕ) (b : Box) (p : Plan) (free : List ℕ) → Handles b p free → Member h (p .ahead) → Chain ((shade h b) .links) (b .state .free) free
 shade-free h b p free i x = shaded-chain (shaded h b none-wait) (b .state .free) free (parts (p .done) (p .mid) (p .ahead) free (i .distinct) .ahead-free h x) (i .free-chain)
-
-pub shade-handles : (h : ℕ) (b : Box) (p : Plan) (free : List ℕ) → Member h (p .ahead) → Handles b p free → Handles (shade h b) p free
-shade-handles h b p free x i = handles-alike b (shade h b) p free (shade-alike h b) (shade-free h b p free i x) i
-
-pub shade-layout : (h : ℕ) (b : Box) (p : Plan) → Layout b p → Layout (shade h b) p
-shade-layout h b p = layout-alike b (shade h b) p (shade-alike h b)
-
-pub shade-zero : (h : ℕ) (b : Box) (z : ℕ) → Zero b z → Zero (shade h b) z
-shade-zero h b z = zero-alike b (shade h b) z (shade-alike h b) (shade-live h b)
 
 pub shade-quiet : (h : ℕ) (b : Box) (p : Plan) → b .state .phase ≤ 3 → Quiet b p (shade h b) p
 shade-quiet h b p l = quiet-alike b (shade h b) p (shade-alike h b) l (rw (shade-steady h b .phase-is) l)
@@ -313,21 +282,3 @@ shade-inv h b g i x v w =
     inv-alike b g (shade h b) (shade-scans h b (g .scans)) i (shade-alike h b) w (rw (shade-steady h b .phase-is) w) (shade-free h b (g .plan) (g .free) (i .handles) x)
     (shade-marks h b (g .plan) (g .free) (g .scans) (i .shape) (i .handles) (i .contents) x w (i .marks))
     (shade-stage h b g (i .shape) (ahead-entry b (g .plan) (g .free) h (i .handles) x .1) v w (i .stage))
-
--- a marked tuple is shaded already
-pub shade-already : (h : ℕ) (b : Box) → marked h b ≡ true → shade h b ≡ b
-unfolding shade
-shade-already h b e = simp e
-
--- those that wait after it, by the cases of the rule
-pub shade-scans-already : (h : ℕ) (b : Box) (s : Scans) → marked h b ≡ true → shade-scans h b s ≡ s
-unfolding shade-scans
-shade-scans-already h b s e = simp e
-
-pub shade-scans-deep : (h : ℕ) (b : Box) (s : Scans) → marked h b ≡ false → deep h b ≡ true → shade-scans h b s ≡ push h s
-unfolding shade-scans
-shade-scans-deep h b s e f = simp (e, f)
-
-pub shade-scans-flat : (h : ℕ) (b : Box) (s : Scans) → marked h b ≡ false → deep h b ≡ false → shade-scans h b s ≡ s
-unfolding shade-scans
-shade-scans-flat h b s e f = simp (e, f)

@@ -2,7 +2,7 @@
 -- invariant. At rest nothing is marked, so live is 0 and no tuple waits; the next list moves whole to the tuple under the scan
 -- and the current list. Assumes nothing.
 use Prim.Native.Nat.{ℕ, _<_}
-use mathlib.Core.Bool.{Bool, true, false, cond}
+use mathlib.Core.Bool.{Bool, true}
 use mathlib.Core.List.{List, [], _∷_, append-nil}
 use mathlib.Core.Logic.{_≢_}
 use mathlib.Core.Path.{_≡_, refl, sym, ap, subst}
@@ -12,7 +12,7 @@ use Rattle.memory.specs.Limits.{register-count}
 use Rattle.memory.specs.State.{with-phase, with-live, with-current, with-next, with-begun}
 use Rattle.memory.specs.Box.{Box, handle-of, names-tuple, with-state, register}
 use Rattle.memory.specs.Place.{shade}
-use Rattle.memory.specs.Collector.{note-begun, scan}
+use Rattle.memory.specs.Collector.{scan}
 use Rattle.history.specs.Agreement.{Member, Distinct}
 use Rattle.history.proofs.Invariant.Statement.{Scans, Ghosts, Inv, listed, Chain, rooms, Unlisted, finding, scanning}
 use Rattle.history.proofs.Lists.Chain.{chain-head}
@@ -44,21 +44,6 @@ rests-with t b g i e =
     relists b g (cycle-begun t b) none-wait i (alike-state b (cycle-begun t b .state) refl refl refl refl refl refl refl refl) (omega arith) (omega arith)
     (record { links-are = refl; marks-are = refl; live-is = sym (rest-live b g i r); nexts-chain = refl; currents-chain = refl; distinct = tt; none-added = λ h x. absurd x; out-black = λ h x o. absurd (subst (λ (hs : List ℕ). Member h hs) (listed-none g (r .unlisted)) x) })
     (finding refl (unswept-scans g none-wait (r .unswept-yet)) refl refl)
-
-either : (b : Box) (g : Ghosts) (s : Scans) (t : Bool) (c d : Box) → Onward b g c s → Onward b g d s → Onward b g (cond t c d) s
-either b g s true c d i j = i
-either b g s false c d i j = j
-
--- the same, as the rule has it
-abbrev pub cycle-noted : Box → Box
-cycle-noted b = note-begun (with-state (with-live 0 (with-current 0 (with-next 0 (with-phase 1 (b .state))))) b)
-
-pub rests-onward : (b : Box) (g : Ghosts) → Inv b g → b .state .phase ≡ 0 → Onward b g (cycle-noted b) none-wait
-unfolding note-begun
-rests-onward b g i e = either b g none-wait (b .state .held) (cycle-begun true b) (cycle-begun (b .state .begun) b) (rests-with true b g i e) (rests-with (b .state .begun) b g i e)
-
-pub rests : (b : Box) (g : Ghosts) → Inv b g → b .state .phase ≡ 0 → Next b g (cycle-noted b)
-rests b g i e = onward-next b g (cycle-noted b) none-wait (rests-onward b g i e)
 
 -- ---- 1 Mark next
 

@@ -5,7 +5,7 @@ use mathlib.Core.Bool.{Bool, true, false, cond}
 use mathlib.Core.List.{List, [], _∷_, _++_}
 use mathlib.Core.Option.{Option, none, some}
 use mathlib.Core.Path.{_≡_, refl}
-use lib.Dec.{eqb, ltb}
+use lib.Dec.{ltb}
 use lib.ListN.{length, length-set, length-replicate}
 use Rattle.memory.specs.declared.request.Request.{Request}
 use Rattle.memory.specs.declared.request.Request.the-variants.{Setd, Nil, Move, Advance, Getm, Load, Store, Size, Tag, Same}
@@ -14,7 +14,7 @@ use Rattle.memory.specs.Box.{Box}
 use Rattle.memory.specs.Place.{Place, copy-place, at, being-moved, place, read}
 use Rattle.memory.specs.Request.{hold}
 use Rattle.memory.specs.Collector.{unheld}
-use Rattle.history.specs.Machine.{HWord, datum, pointer-to, Asked, History, fresh, register-of, size-at, word-of, made, with-hold, put-in, make, advance-by, load-from, store-to, size-to, tag-to, do-request, hold-request, grant, Call, ask, single-step, run-for, feed}
+use Rattle.history.specs.Machine.{HWord, datum, pointer-to, Asked, History, fresh, register-of, size-at, word-of, made, with-hold, put-in, make, advance-by, load-from, store-to, size-to, tag-to, do-request, hold-request, grant}
 use Rattle.history.proofs.Invariant.Statement.{Plan, word, Kept, settled, moving, unswept, surviving, Contents}
 use Rattle.history.proofs.Invariant.Frame.{Calm}
 use Rattle.history.proofs.Relation.Statement.{Holds, Related}
@@ -154,33 +154,10 @@ registers-request (Size r s) m = registers-size r (register-of s m) m
 registers-request (Tag r s) m = registers-tag r (register-of s m) m
 registers-request (Same r s t) m = simp length-set
 
-pub registers-hold : (q : Request) (m : History) → length (hold-request q m .registers) ≡ length (m .registers)
-unfolding hold-request
-registers-hold (Setd r v) m = refl
-registers-hold (Nil r) m = refl
-registers-hold (Move r s) m = refl
-registers-hold (Advance r n) m = refl
-registers-hold (Getm r n t) m = refl
-registers-hold (Load r s k) m = refl
-registers-hold (Store r s k) m = refl
-registers-hold (Size r s) m = refl
-registers-hold (Tag r s) m = refl
-registers-hold (Same r s t) m = refl
-
 pub registers-grant : (o : Option Asked) (m : History) → length (grant o m .registers) ≡ length (m .registers)
 unfolding grant
 registers-grant none m = refl
 registers-grant (some q) m = registers-make (q .register) (q .size) (q .tag) m
-
--- any call and any answer
-pub registers-feed : (k : Call) (a : ℕ) (m : History) → length (feed k a m .registers) ≡ length (m .registers)
-unfolding feed
-registers-feed (ask q) a m =
-    registers-cond (eqb a 0) (do-request q m) (cond (eqb a 7) (hold-request q m) m) m (registers-request q m) (registers-cond (eqb a 7) (hold-request q m) m m (registers-hold q m) refl)
-registers-feed single-step a m =
-    registers-cond (eqb a 32) (grant (m .hold) m) (cond (eqb a 8) (with-hold none m) m) m (registers-grant (m .hold) m) (registers-cond (eqb a 8) (with-hold none m) m m refl refl)
-registers-feed (run-for n) a m =
-    registers-cond (eqb a 0) (grant (m .hold) m) (cond (eqb a 8) (with-hold none m) m) m (registers-grant (m .hold) m) (registers-cond (eqb a 8) (with-hold none m) m m refl refl)
 
 -- the history machine begins with eight
 pub registers-fresh : length (fresh .registers) ≡ register-count

@@ -2,7 +2,7 @@
 -- by the theorem of its kind. What a GETM or a STORE that was carried out changes in the box is a hypothesis of the theorem
 -- (`Carried`). Assumes nothing else.
 use Prim.Native.Nat.{ℕ, suc, _<_}
-use mathlib.Core.Bool.{Bool, true, false, cond}
+use mathlib.Core.Bool.{cond}
 use mathlib.Core.List.{List, [], _∷_, _++_}
 use mathlib.Core.Logic.{_≢_}
 use mathlib.Core.Path.{_≡_, refl, sym, _∙_, ap, subst}
@@ -16,7 +16,7 @@ use Rattle.memory.specs.Limits.{register-count}
 use Rattle.memory.specs.Box.{Box, Reply, reply, register}
 use Rattle.memory.specs.Request.{new-tuple, hold, done, request}
 use Rattle.history.specs.Machine.{History, made, make, do-request, hold-request, ask, feed}
-use Rattle.history.specs.Calls.{Log, given-by, log-done, log-held, log-request}
+use Rattle.history.specs.Calls.{given-by}
 use Rattle.history.proofs.Invariant.Statement.{Plan, Ghosts, Inv}
 use Rattle.history.proofs.Relation.Statement.{Related}
 use Rattle.history.proofs.Relation.Registers.{related-setd, related-nil, related-move, related-advance, related-load, related-size, related-nil-size, related-tag, related-nil-tag, related-same}
@@ -127,13 +127,3 @@ module _ (b : Box) (g : Ghosts) (m : History) (given : List ℕ) (number : ℕ �
   related-request q (gives-tag {r = r} {s = t} x h l k z w u e) f y = carried (Tag r t) _ e refl (y (answer-is (Tag r t) _ e)) (related-tag b g m given number i s eight r t l k z)
   related-request q (gives-nil-tag {r = r} {s = t} x h l k z w e) f y = carried (Tag r t) _ e refl (y (answer-is (Tag r t) _ e)) (related-nil-tag b g m given number i s eight r t l k z w)
   related-request q (compares {r = r} {s = t} {t = u} x h l k o e) f y = carried (Same r t u) _ e refl (y (answer-is (Same r t u) _ e)) (related-same b g m given number i s eight r t u l k o)
-
--- the log keeps those handles
-pub log-given : (q : Request) (x : Reply) (m : History) (l : Log) → log-request q (x .answer) (x .box) m l .given ≡ given-after q x (l .given)
-unfolding log-request log-done log-held given-after
-log-given q x m l = go (eqb (x .answer) 0) (eqb (x .answer) 7)
-  where
-    go : (s t : Bool) → cond s (log-done q (x .box) l) (cond t (log-held m l) l) .given ≡ cond s (given-by q (x .box) (l .given)) (l .given)
-    go true t = refl
-    go false true = refl
-    go false false = refl

@@ -57,10 +57,6 @@ pub tracked-on : (b c : Box) (p q : Plan) (m : History) (number : ℕ → ℕ) (
     → Tracked c q m number started
 tracked-on b c p q m number started i x y z = record { not-fewer = i .not-fewer; roots-spared = i .roots-spared; words-spared = i .words-spared; marked-spared = x; adding-spared = y; kept-spared = z }
 
--- a pointer of the box that names a tuple is one of the history machine
-abbrev Points : (ℕ → ℕ) → Word → HWord → Type 0
-Points number w v = (o : ℕ) × (v ≡ pointer-to (number (handle-of w)) o)
-
 pub match-points : (number : ℕ → ℕ) (w : Word) (v : HWord) → w .flag ≡ true → Match number w v → (o : ℕ) × (v ≡ pointer-to (number (handle-of w)) o)
 match-points number w (datum v) f e = absurd (false≢true (sym (e .0) ∙ f))
 match-points number w (pointer-to i o) f e = (o, ap (λ (x : ℕ). pointer-to x o) (sym (e .2)))

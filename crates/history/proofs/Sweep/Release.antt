@@ -2,13 +2,11 @@
 -- or begin to zero its words. It was not kept, so no kept tuple changes, and every group is read off the invariant before. Assumes
 -- nothing.
 use Prim.Native.Nat.{ℕ, _+_, _-_, _≤_, _<_}
-use mathlib.Core.Bool.{Bool, true, false, cond, false≢true}
+use mathlib.Core.Bool.{true, false, false≢true}
 use mathlib.Core.List.{List, _∷_}
 use mathlib.Core.Logic.{_≢_, inl, inr}
 use mathlib.Core.Path.{_≡_, refl, sym, _∙_, subst}
-use borrow.Author.Tests.{ltb-false}
 use native.Mathlib.Omega.{arith}
-use lib.Dec.{ltb}
 use lib.ListN.{set, length-set}
 use Rattle.memory.specs.State.{with-free, with-phase, with-src, with-tuple, with-size, with-index}
 use Rattle.memory.specs.Box.{Box, handle-of, with-state, word-at, size-of, marked, set-link}
@@ -40,14 +38,6 @@ zero-begun-box b =
     (with-free (b .state .tuple)
     (with-size (size-of (b .state .tuple) b) (with-index (b .state .live - b .state .src) (with-phase 8 (b .state)))))
     b)
-
--- the index at which the rule has it begin
-pub zero-index : (src live : ℕ) → cond (ltb src live) (live - src) 0 ≡ live - src
-zero-index src live = cases (ltb src live) refl
-  where
-    cases : (t : Bool) → ltb src live ≡ t → cond t (live - src) 0 ≡ live - src
-    cases true e = refl
-    cases false e = omega (arith, ltb-false src live e)
 
 -- ---- what the two boxes share: the tuple is freed, and those behind it lie ahead
 
