@@ -1,5 +1,4 @@
 -- Requests and the opening: each keeps the invariant.
-pub mod Tests
 pub mod Opening
 pub mod Places
 pub mod InRange

@@ -1,5 +1,4 @@
 -- Phases 0 to 3: each transition of marking keeps the invariant.
-pub mod Stages
 pub mod Alike
 pub mod Shade
 pub mod Start

@@ -2,7 +2,6 @@
 pub mod Tuple
 pub mod Within
 pub mod Copying
-pub mod Put
 pub mod Clearing
 pub mod Writing
 pub mod Settling

@@ -5,4 +5,3 @@ pub mod Registers
 pub mod NewTuple
 pub mod Store
 pub mod Hold
-pub mod Requests

@@ -114,11 +114,11 @@ in-time m h w k = record { not-yet = go (k .waiting); by-then = k .past .in-time
         let f : y .steps < 16 * m + 4 = omega arith in
         subst (IfThere (λ (p : Pending). p .steps < 16 * m + 4)) (sym o) f
 
-parts : (m h : ℕ) (w : World) → GoodWorld m h w → Demand3 m h w
-parts m h w k =
+seven-parts : (m h : ℕ) (w : World) → GoodWorld m h w → Demand3 m h w
+seven-parts m h w k =
     record { agreement = agree (w .box) (k .good .ghosts .plan) (w .history) (w .log .given) (k .good .number) (k .good .related) (k .good .inv .contents); never-nine = k .never-nine; dead-tuples-gone = k .good .past .swept; holds-justly-answered = k .good .past .justly; holds-in-time = in-time m h w (k .good); rest-sum = rest-sum w (k .good .ghosts) (k .good .number) (k .good .inv) (k .good .related); zero-above-top = words-above-top (w .box) (k .good .ghosts) (k .good .inv); cycles-bounded = k .good .past .bounded }
 
 -- ---- the theorem
 
 pub demand3 : Demand3Claim
-demand3 m h b e calls u = parts m h (play calls (start (opening m h b .box))) (good-play m h calls (start (opening m h b .box)) u (record { good = good-open m h b e; never-nine = tt }))
+demand3 m h b e calls u = seven-parts m h (play calls (start (opening m h b .box))) (good-play m h calls (start (opening m h b .box)) u (record { good = good-open m h b e; never-nine = tt }))

@@ -9,9 +9,9 @@ use Rattle.memory.specs.Request.{new-tuple}
 use Rattle.memory.specs.Collector.{unheld, granted}
 use Rattle.history.proofs.Invariant.Statement.{Plan, Ghosts, Inv, word}
 use Rattle.history.proofs.Invariant.Frame.{Quiet}
-use Rattle.history.proofs.Asking.InRange.{Room}
 use Rattle.history.proofs.Asking.Registers.{invariant-unheld, unheld-quiet}
 use Rattle.history.proofs.Asking.NewTuple.{made-plan, made-ghosts, Made, invariant-new-tuple, new-tuple-made}
+use Rattle.history.proofs.View.Tests.{Room}
 
 -- a new tuple, and then what leaves tuples and registers alone
 pub made-then : (b : Box) (p : Plan) (c : Box) (q : Plan) (e : Box) (r n tag : ℕ) → Made b p c q r n tag → Quiet c q e q → e .state .h ≡ c .state .h → Made b p e q r n tag
@@ -33,7 +33,7 @@ unfolding granted
 invariant-granted b g v e t =
     let f = v .shape .held-register e in
     invariant-unheld (new-tuple (b .state .«hold_register») (b .state .«hold_size») (b .state .«hold_tag») b) (made-ghosts g (b .state .free))
-    (invariant-new-tuple b g v (b .state .«hold_register») (b .state .«hold_size») (b .state .«hold_tag») (f .0) (t .some-free) (t .words-fit) (f .1))
+    (invariant-new-tuple b g v (b .state .«hold_register») (b .state .«hold_size») (b .state .«hold_tag») (f .0) (t .0) (t .1) (f .1))
 
 pub granted-made : (b : Box) (g : Ghosts) → Inv b g → b .state .held ≡ true → Room (b .state .«hold_size») b → Made b (g .plan) (granted b) (made-plan (g .plan) (b .state .free)) (b .state .«hold_register») (b .state .«hold_size») (b .state .«hold_tag»)
 unfolding granted
@@ -41,6 +41,6 @@ granted-made b g v e t =
     let f = v .shape .held-register e in
     let made : Box = new-tuple (b .state .«hold_register») (b .state .«hold_size») (b .state .«hold_tag») b in
     made-then b (g .plan) made (made-plan (g .plan) (b .state .free)) (unheld made) (b .state .«hold_register») (b .state .«hold_size») (b .state .«hold_tag»)
-    (new-tuple-made b g v (b .state .«hold_register») (b .state .«hold_size») (b .state .«hold_tag») (f .0) (t .some-free) (t .words-fit) (f .1))
+    (new-tuple-made b g v (b .state .«hold_register») (b .state .«hold_size») (b .state .«hold_tag») (f .0) (t .0) (t .1) (f .1))
     (unheld-quiet made (made-plan (g .plan) (b .state .free)))
     (unheld-entries made)

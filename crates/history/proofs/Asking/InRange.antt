@@ -60,12 +60,6 @@ free-bounds b g v n = v .handles .entries (b .state .free) (among-member (b .sta
 pub live-fits : (b : Box) (g : Ghosts) → Inv b g → (n : ℕ) → b .state .top + n + 1 ≤ b .state .m → b .state .live + n + 1 ≤ b .state .m
 live-fits b g v n l = omega (arith, live-top b g v)
 
--- the tests of a request
-
-pub record Room (n : ℕ) (b : Box) : Type 0 where
-  pub some-free : b .state .free ≢ 0
-  pub words-fit : b .state .top + n + 1 ≤ b .state .m
-
 -- ---- what every call tests first
 
 phase-bound : (b : Box) (g : Ghosts) → Stage b g → b .state .phase ≤ 8

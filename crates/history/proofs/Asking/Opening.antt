@@ -15,7 +15,7 @@ use Rattle.memory.specs.Open.{opened, opened-state, opened-link, opened-links}
 use Rattle.history.specs.Agreement.{Member, Distinct}
 use Rattle.history.proofs.Invariant.Statement.{Chain, Kept, settled, moving, unswept, surviving, Inv, Shape, Handles, Layout, Contents, Zero, Marks, Stage, rooms, marked-rooms}
 use Rattle.history.proofs.Invariant.Resting.{resting-plan, resting}
-use Rattle.history.proofs.Asking.Tests.{and-left, and-right}
+use Rattle.history.proofs.View.Tests.{and-left, and-right}
 
 -- ---- n handles from i on
 
@@ -162,6 +162,6 @@ open-marks : (m h : ℕ) → Marks (opened m h) (resting-plan []) (handles-below
 unfolding opened opened-state rooms marked-rooms
 open-marks m h = record { free-unmarked = λ x y. getD-all h x false; done-unmarked = λ x y. absurd y; mid-unmarked = λ x y. absurd y; live-is = refl; nexts-chain = refl; currents-chain = refl; listed-distinct = tt; listed-ahead = λ x y. absurd y; listed-marked = λ x y. absurd y; listed-deep = λ x y. absurd y; black = λ l x y. absurd y }
 
-pub invariant-open : (m h : ℕ) → in-range m h ≡ true → Inv (opened m h) (resting [] (handles-below h))
+pub opened-inv : (m h : ℕ) → in-range m h ≡ true → Inv (opened m h) (resting [] (handles-below h))
 unfolding opened opened-state
-invariant-open m h e = record { shape = open-shape m h e; handles = open-handles m h e; layout = open-layout m h; contents = open-contents m h; zero-words = open-zero m h; marks = open-marks m h; stage = Stage.at-rest refl (record { no-done = refl; no-mid = refl; low-zero = refl; base-zero = refl; zeroed-zero = refl }) (record { no-nexts = refl; no-currents = refl; no-gray = refl }) (λ x y. absurd y) }
+opened-inv m h e = record { shape = open-shape m h e; handles = open-handles m h e; layout = open-layout m h; contents = open-contents m h; zero-words = open-zero m h; marks = open-marks m h; stage = Stage.at-rest refl (record { no-done = refl; no-mid = refl; low-zero = refl; base-zero = refl; zeroed-zero = refl }) (record { no-nexts = refl; no-currents = refl; no-gray = refl }) (λ x y. absurd y) }

@@ -6,7 +6,6 @@ use mathlib.Core.Bool.{true, false, not, _&&_, false≢true}
 use mathlib.Core.Logic.{_≢_, inl}
 use mathlib.Core.Path.{_≡_, refl, sym, ap, _∙_, subst}
 use native.Mathlib.Omega.{arith}
-use native.Mathlib.Nat.{mul-add-div-right, div-eq-of-lt}
 use native.Mathlib.Decide.{ℕ-discrete}
 use lib.Dec.{eqb}
 use lib.ListN.{length-set}
@@ -20,12 +19,9 @@ use Rattle.history.specs.Calls.{In16}
 use Rattle.history.proofs.Invariant.Statement.{Plan, Ghosts, Inv, word, Kept, Shape, Contents}
 use Rattle.history.proofs.Invariant.Frame.{shape-same, layout-same, zero-same, Quiet, quiet-contents}
 use Rattle.history.proofs.Asking.Steady.{Steady, steady-inv, steady-kept-to, steady-kept-from}
+use Rattle.history.proofs.Invariant.Words.{pointer-handle}
 
 -- ---- handles and names
-
--- a pointer's handle, its offset being of 16 bits
-pub pointer-handle : (h o : ℕ) → o < half-word → handle-of (pointer h o) ≡ h
-pointer-handle h o l = omega (arith, mul-add-div-right {m = half-word} (omega arith) h o, div-eq-of-lt {n = o} {m = half-word} l)
 
 -- a pointer with the handle of another names a tuple where that does
 pub names-alike : (v w : Word) → v .flag ≡ w .flag → handle-of v ≡ handle-of w → names-tuple v ≡ names-tuple w
@@ -55,15 +51,15 @@ put-word : (r : ℕ) (w : Word) (b : Box) (h i : ℕ) → word h i (put-register
 unfolding word place being-moved
 put-word r w b h i = put-read r w b (place h i b)
 
-pub put-same : (r : ℕ) (w : Word) (b : Box) → Shape b → r < register-count → register r (put-register r w b) ≡ w
-put-same r w b s l = λ i. record { bits = getD-set-same (b .state .registers) r (w .bits) 0 (omega (arith, s .registers-length)) i; flag = getD-set-same (b .state .flags) r (w .flag) false (omega (arith, s .register-flags-length)) i }
+pub register-put-same : (r : ℕ) (w : Word) (b : Box) → Shape b → r < register-count → register r (put-register r w b) ≡ w
+register-put-same r w b s l = λ i. record { bits = getD-set-same (b .state .registers) r (w .bits) 0 (omega (arith, s .registers-length)) i; flag = getD-set-same (b .state .flags) r (w .flag) false (omega (arith, s .register-flags-length)) i }
 
-pub put-other : (r : ℕ) (w : Word) (b : Box) (s : ℕ) → s ≢ r → register s (put-register r w b) ≡ register s b
-put-other r w b s n = λ i. record { bits = getD-set-other (b .state .registers) r s (w .bits) 0 n i; flag = getD-set-other (b .state .flags) r s (w .flag) false n i }
+pub register-put-other : (r : ℕ) (w : Word) (b : Box) (s : ℕ) → s ≢ r → register s (put-register r w b) ≡ register s b
+register-put-other r w b s n = λ i. record { bits = getD-set-other (b .state .registers) r s (w .bits) 0 n i; flag = getD-set-other (b .state .flags) r s (w .flag) false n i }
 
 pub register-put : (b : Box) (g : Ghosts) → Inv b g → (r : ℕ) (w : Word) → r < register-count → Put b (g .plan) (put-register r w b) r w
 register-put b g v r w l =
-    record { kept-to = steady-kept-to b (put-register r w b) (g .plan) (put-steady r w b); kept-from = steady-kept-from b (put-register r w b) (g .plan) (put-steady r w b); register-put = put-same r w b (v .shape) l; registers-same = put-other r w b; sizes-same = λ h. refl; words-same = put-word r w b; deeps-same = λ h. refl }
+    record { kept-to = steady-kept-to b (put-register r w b) (g .plan) (put-steady r w b); kept-from = steady-kept-from b (put-register r w b) (g .plan) (put-steady r w b); register-put = register-put-same r w b (v .shape) l; registers-same = register-put-other r w b; sizes-same = λ h. refl; words-same = put-word r w b; deeps-same = λ h. refl }
 
 put-shape : (r : ℕ) (w : Word) (b : Box) → Shape b → Shape (put-register r w b)
 put-shape r w b s =

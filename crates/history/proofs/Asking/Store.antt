@@ -13,7 +13,7 @@ use Rattle.history.proofs.Invariant.Statement.{Plan, Ghosts, Inv, word,
 use Rattle.history.proofs.Invariant.Frame.{Quiet}
 use Rattle.history.proofs.Marking.Alike.{address-alike, with-scans}
 use Rattle.history.proofs.Marking.Shade.{Steady, shade-scans, shade-alike, shade-steady, shade-mark, shade-quiet, shade-inv}
-use Rattle.history.proofs.Marking.Stages.{rests-of, unswept-of, kept-ahead}
+use Rattle.history.proofs.Invariant.Stages.{rests-of, unswept-of, kept-ahead}
 use Rattle.history.proofs.Asking.Places.{place-by}
 use Rattle.history.proofs.Asking.InRange.{kept-bounds}
 use Rattle.history.proofs.Asking.Steady.{steady-kept-from, steady-kept-to}
@@ -125,5 +125,3 @@ module _ (b : Box) (g : Ghosts) (v : Inv b g) (h n : ℕ) (k : Kept b (g .plan) 
 
   pub shaded-stored : Kept b (g .plan) (handle-of w) → Shades w b → Stored b (g .plan) (write (place h (n + 1) b) w (set-deep h true (shade (handle-of w) b))) (g .plan) h n w
   shaded-stored = shaded-write-stored b g v h n k l w
-
--- ---- all cases

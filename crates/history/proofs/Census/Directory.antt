@@ -11,13 +11,14 @@ use Rattle.history.specs.Machine.{History, size-at, made}
 use Rattle.history.specs.Agreement.{Reachable, handle-at, Listed, Gone, in-free-list, given-later, Member, Distinct, Lists, room, Fits}
 use Rattle.history.specs.Calls.{World}
 use Rattle.history.specs.Demand3.{IsNumber, RestSum}
-use Rattle.history.proofs.Invariant.Statement.{Ghosts, Inv, rooms, Kept, settled, moving, unswept, surviving, Stage}
+use Rattle.history.proofs.Invariant.Statement.{Ghosts, Inv, rooms, unswept, Unswept}
 use Rattle.history.proofs.Lists.Handles.{Parts, parts, Among, among, among-done, among-mid, among-ahead, among-free, among-member}
 use Rattle.history.proofs.Lists.Chain.{Headed, no-head, head-first, chain-headed, chain-empty}
 use Rattle.history.proofs.Lists.Laid.{laid-rooms}
 use Rattle.history.proofs.Lists.Numbers.{minus, Within, minus-distinct, minus-member, minus-out, minus-in, minus-room, within-room, within-length, upto, upto-bounds, upto-member, upto-distinct}
 use Rattle.history.proofs.Relation.Statement.{Holds, Related, Keeps, reached}
 use Rattle.history.proofs.Spared.Tracked.{free-listed, listed-free}
+use Rattle.history.proofs.Invariant.Stages.{kept-ahead, unswept-of}
 
 -- ---- the numbers of a list of handles
 
@@ -68,21 +69,11 @@ pub record Directory (b : Box) (g : Ghosts) : Type 0 where
   pub resting : b .state .phase ≡ 0
 
 pub directory : (b : Box) (g : Ghosts) → Inv b g → b .state .phase ≡ 0 → Directory b g
-directory b g v e = go (v .stage)
-  where
-    laid : g .plan .base ≡ 0 → rooms b (g .plan .ahead) ≡ b .state .top
-    laid z = let q : g .plan .base + rooms b (g .plan .ahead) ≡ b .state .top = laid-rooms b (g .plan .base) (g .plan .ahead) (b .state .top) (v .layout .ahead-laid) in omega arith
-
-    go : Stage b g → Directory b g
-    go (Stage.at-rest p u n m) = record { no-done = u .no-done; no-mid = u .no-mid; top-is = laid (u .base-zero); resting = e }
-    go (Stage.finding p u c y) = absurd (omega arith)
-    go (Stage.scanning p u s x y) = absurd (omega arith)
-    go (Stage.adding p u s x y z) = absurd (omega arith)
-    go (Stage.sweeping p u a c d f hs q) = absurd (omega arith)
-    go (Stage.reading p x a c) = absurd (omega arith)
-    go (Stage.clearing p x a c) = absurd (omega arith)
-    go (Stage.writing p x a c) = absurd (omega arith)
-    go (Stage.zeroing p x a c d f h i) = absurd (omega arith)
+directory b g v e =
+    let u : Unswept g = unswept-of b g (v .stage) (omega arith) in
+    let z : g .plan .base ≡ 0 = u .base-zero in
+    let q : g .plan .base + rooms b (g .plan .ahead) ≡ b .state .top = laid-rooms b (g .plan .base) (g .plan .ahead) (b .state .top) (v .layout .ahead-laid) in
+    record { no-done = u .no-done; no-mid = u .no-mid; top-is = omega arith; resting = e }
 
 module _ (b : Box) (g : Ghosts) (m : History) (given : List ℕ) (number : ℕ → ℕ) (v : Inv b g) (s : Related b (g .plan) m given number) (e : b .state .phase ≡ 0) where
   there : Directory b g
@@ -109,13 +100,6 @@ module _ (b : Box) (g : Ghosts) (m : History) (given : List ℕ) (number : ℕ �
   alive-made : (i : ℕ) → Member i alive → IsNumber i m
   unfolding alive
   alive-made i x = let r = numbers-of number (g .plan .ahead) i x in subst (λ (y : ℕ). IsNumber y m) (r .2) (holds (r .0) (r .1) .number-made)
-
-  -- a kept tuple lies ahead
-  kept-ahead : (h : ℕ) → Kept b (g .plan) h → Member h (g .plan .ahead)
-  kept-ahead h (settled x) = absurd (subst (λ (l : List ℕ). Member h l) (there .no-done) x)
-  kept-ahead h (moving x) = absurd (subst (λ (l : List ℕ). Member h l) (there .no-mid) x)
-  kept-ahead h (unswept x l) = x
-  kept-ahead h (surviving x t) = x
 
   -- ---- the sum
 
@@ -211,7 +195,7 @@ module _ (b : Box) (g : Ghosts) (m : History) (given : List ℕ) (number : ℕ �
   unfolding alive
   reachable-alive i x =
       let k : Keeps b (g .plan) number i = reached b (g .plan) m given number s (v .contents) i x in
-      subst (λ (y : ℕ). Member y (numbers number (g .plan .ahead))) (k .numbered) (numbers-in number (g .plan .ahead) (k .handle) (kept-ahead (k .handle) (k .kept)))
+      subst (λ (y : ℕ). Member y (numbers number (g .plan .ahead))) (k .numbered) (numbers-in number (g .plan .ahead) (k .handle) (kept-ahead b g (k .handle) (unswept-of b g (v .stage) (omega arith)) (k .kept)))
 
   -- a list of reachable tuples takes no more than the directory does, in words and in handles
   pub fits-if-room : (is : List ℕ) → Lists (Reachable m) is → (n : ℕ) → b .state .free ≢ 0 → b .state .top + n + 1 ≤ b .state .m → Fits (b .state .m) (b .state .h) is n m

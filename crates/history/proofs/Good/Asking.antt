@@ -7,7 +7,7 @@ use mathlib.Core.Logic.{_≢_, _⊎_, inl, inr}
 use mathlib.Core.Option.{some}
 use mathlib.Core.Path.{_≡_, refl, sym, _∙_, ap, subst}
 use native.Mathlib.Omega.{arith}
-use lib.Dec.{ltb, lit<}
+use lib.Dec.{ltb}
 use Rattle.memory.specs.declared.request.Request.{Request}
 use Rattle.memory.specs.declared.request.Request.the-variants.{Setd, Nil, Move, Advance, Getm, Load, Store, Size, Tag, Same}
 use Rattle.memory.specs.Limits.{register-count, half-word}
@@ -24,14 +24,12 @@ use Rattle.history.proofs.Left.Count.{left}
 use Rattle.history.proofs.Left.Bounds.{left-bound-m}
 use Rattle.history.proofs.Left.Same.{left-held}
 use Rattle.history.proofs.Asking.InRange.{free-bounds}
-use Rattle.history.proofs.Asking.NewTuple.{New, new-box, made-plan, made-ghosts, invariant-new-tuple}
+use Rattle.history.proofs.Asking.NewTuple.{New, new-box, made-plan, made-ghosts, invariant-new-tuple, Made, new-tuple-made}
 use Rattle.history.proofs.Asking.Registers.{invariant-hold, hold-quiet}
 use Rattle.history.proofs.Asking.Write.{Stored}
 use Rattle.history.proofs.Asking.Store.{stores-data, data-stored, deep-stored, stores-shaded, shaded-stored}
 use Rattle.history.proofs.Relation.Statement.{Related}
 use Rattle.history.proofs.Relation.Still.{kept-put}
-use Rattle.history.proofs.Relation.Registers.{pointer-handle}
-use Rattle.history.proofs.Relation.NewTuple as made-relation
 use Rattle.history.proofs.Relation.NewTuple.{renumbered, related-made}
 use Rattle.history.proofs.Relation.Hold.{registers-request, related-hold}
 use Rattle.history.proofs.Relation.Store.{related-store}
@@ -39,7 +37,6 @@ use Rattle.history.proofs.Spared.History.{spared-request}
 use Rattle.history.proofs.Spared.Steps.{shade-marked-only}
 use Rattle.history.proofs.Spared.Requests.{tracked-in, tracked-asked, tracked-made}
 use Rattle.history.proofs.Spared.Tracked.{Spared, Tracked, root-spared}
-use Rattle.history.proofs.Good.Ending.{new-tuple-relation}
 use Rattle.history.proofs.Good.Statement.{Cycling, between, under-way, Held, Waiting, nothing-held, one-held, Good}
 
 -- ---- the history machine's hold stays with a request carried out
@@ -186,13 +183,13 @@ module _ (m h : ℕ) (b : Box) (t : History) (l : Log) (k : Good m h b t l) (u :
       stays : Stays b (new-tuple r n tag b)
       stays = record { m-same = fields .m-same; h-same = fields .h-same; held-same = new-held r n tag b; phase-same = fields .phase-same }
 
-      what : made-relation.Made b (g .plan) (new-tuple r n tag b) (made-plan (g .plan) (b .state .free)) r (b .state .free) n tag
-      what = new-tuple-relation b g (k .inv) r n tag lr fr fit tg
+      what : Made b (g .plan) (new-tuple r n tag b) (made-plan (g .plan) (b .state .free)) r n tag
+      what = new-tuple-made b g (k .inv) r n tag lr fr fit tg
 
       noted : Related (new-tuple r n tag b) (made-plan (g .plan) (b .state .free)) (make r n tag t) (l .given ++ handle-of (register r (new-tuple r n tag b)) ∷ []) (renumbered (k .number) (b .state .free) (suc (made t)))
       noted =
-          subst (λ (x : ℕ). Related (new-tuple r n tag b) (made-plan (g .plan) (b .state .free)) (make r n tag t) (l .given ++ x ∷ []) (renumbered (k .number) (b .state .free) (suc (made t)))) (sym (ap handle-of (what .register-made) ∙ pointer-handle (b .state .free) 0 (lit< tt)))
-          (related-made b (g .plan) (new-tuple r n tag b) (made-plan (g .plan) (b .state .free)) r (b .state .free) n tag t (l .given) (k .number) what (k .inv .contents) (k .related) (k .eight) lr)
+          subst (λ (x : ℕ). Related (new-tuple r n tag b) (made-plan (g .plan) (b .state .free)) (make r n tag t) (l .given ++ x ∷ []) (renumbered (k .number) (b .state .free) (suc (made t)))) (sym (what .made-handle))
+          (related-made b (g .plan) (new-tuple r n tag b) (made-plan (g .plan) (b .state .free)) r n tag t (l .given) (k .number) what (k .inv .contents) (k .related) (k .eight) lr)
 
   -- a word is stored: what the box is after it is given
   pub good-store : (r s n : ℕ) → r < register-count → s < register-count → There s n b → (c : Box) (sc : Scans) → Inv c (with-scans sc g) → Stored b (g .plan) c (g .plan) (named s b) (number-in s n b) (register r b) → Stays b c → c .state .tuple ≡ b .state .tuple
@@ -201,7 +198,7 @@ module _ (m h : ℕ) (b : Box) (t : History) (l : Log) (k : Good m h b t l) (u :
   unfolding given-by
   good-store r s n lr ls th c sc v st y e mk =
       good-done m h b t l k (Store r s n) c (with-scans sc g) (k .number) u y v
-      (related-store b g t (l .given) (k .number) (k .inv) (k .related) (k .eight) c r s n lr ls th (record { kept-to = st .kept-to; roots-same = st .roots-same; h-same = st .h-same; sizes-same = st .sizes-same; word-stored = st .word-stored; words-same = st .words-same }))
+      (related-store b g t (l .given) (k .number) (k .inv) (k .related) (k .eight) c r s n lr ls th st)
       (λ started x. tracked-asked b (g .plan) c t (do-request (Store r s n) t) (k .number) started (record { phase-same = y .phase-same; tuple-same = e; marked-from = λ z w. from started x z (mk z w); kept-to = st .kept-to }) (spared-request t started (tracked-in b (g .plan) t (k .number) started x) (k .eight) (Store r s n)) x)
     where
       from : (started : History) → Tracked b (g .plan) t (k .number) started → (z : ℕ) → (marked z b ≡ true) ⊎ ((names-tuple (register r b) ≡ true) × (z ≡ handle-of (register r b))) → (marked z b ≡ true) ⊎ Spared started (k .number z)

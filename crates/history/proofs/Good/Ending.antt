@@ -9,7 +9,6 @@ use mathlib.Core.Option.{Option, none, some}
 use mathlib.Core.Path.{_≡_, refl, sym, _∙_, ap, subst}
 use native.Mathlib.Decide.{ℕ-discrete}
 use native.Mathlib.Omega.{arith}
-use lib.Dec.{lit<}
 use Rattle.memory.specs.Limits.{register-count, half-word}
 use Rattle.memory.specs.Box.{Box, handle-of, register}
 use Rattle.memory.specs.Request.{new-tuple}
@@ -22,26 +21,16 @@ use Rattle.history.proofs.Invariant.Frame.{Next}
 use Rattle.history.proofs.Left.Count.{left}
 use Rattle.history.proofs.Left.Bounds.{left-positive, left-bound-m}
 use Rattle.history.proofs.Asking.InRange.{free-bounds}
-use Rattle.history.proofs.Asking.NewTuple.{New, new-box, Made, made-plan, made-ghosts, new-tuple-made, invariant-new-tuple}
+use Rattle.history.proofs.Asking.NewTuple.{New, new-box, Made, made-ghosts, new-tuple-made, invariant-new-tuple}
 use Rattle.history.proofs.Asking.Registers.{invariant-unheld, unheld-quiet}
 use Rattle.history.proofs.Relation.Statement.{Related}
 use Rattle.history.proofs.Relation.Still.{related-calm}
-use Rattle.history.proofs.Relation.Registers.{pointer-handle}
-use Rattle.history.proofs.Relation.NewTuple as made-relation
-use Rattle.history.proofs.Relation.NewTuple.{renumbered, renumbered-same, renumbered-other}
+use Rattle.history.proofs.Relation.NewTuple.{renumbered, renumbered-same, renumbered-other, made-make}
 use Rattle.history.proofs.Relation.Hold.{related-dropped, related-granted, registers-grant}
 use Rattle.history.proofs.Spared.Tracked.{Spared, made-since, Tracked, gone-at-rest}
 use Rattle.history.proofs.Census.Answers.{granted-justly, dropped-justly}
 use Rattle.history.proofs.Good.Statement.{UnderWay, Cycling, between, under-way, Held, Waiting, nothing-held, one-held, Past, Good}
 use Rattle.history.proofs.Invariant.Stepping.{SameHold}
-
--- ---- a new tuple, as the relation wants to know of it
-
-pub new-tuple-relation : (b : Box) (g : Ghosts) (v : Inv b g) (r n tag : ℕ) → r < register-count → b .state .free ≢ 0 → b .state .top + n + 1 ≤ b .state .m → tag < half-word → made-relation.Made b (g .plan) (new-tuple r n tag b) (made-plan (g .plan) (b .state .free)) r (b .state .free) n tag
-new-tuple-relation b g v r n tag lr fr fit tg =
-    let a : Made b (g .plan) (new-tuple r n tag b) (made-plan (g .plan) (b .state .free)) r n tag = new-tuple-made b g v r n tag lr fr fit tg in
-    let w : New b (new-tuple r n tag b) r n tag = new-box b (v .shape) r n tag lr (free-bounds b g v fr .1) fit in
-    record { handle-not-nil = fr; handle-below = free-bounds b g v fr .1; h-same = w .h-same; register-made = a .register-made; roots-same = a .registers-same; handle-new = a .was-free; kept-to = a .kept-to; sizes-same = a .sizes-same; words-same = a .words-same; size-made = a .made-size; tag-made = a .made-tag; words-made = a .made-words }
 
 -- ---- the end of the cycle that is under way
 
@@ -244,9 +233,9 @@ module _ (m h : ℕ) (b : Box) (t : History) (l : Log) (k : Good m h b t l) (c :
     abbrev numbers : ℕ → ℕ
     numbers = renumbered (k .number) (c .state .free) (suc (made t))
 
-    new : made-relation.Made (at-rest c) (n .ghosts .plan) made-box (made-g .plan) (c .state .«hold_register») (c .state .free) (c .state .«hold_size») (c .state .«hold_tag»)
+    new : Made (at-rest c) (n .ghosts .plan) made-box (made-g .plan) (c .state .«hold_register») (c .state .«hold_size») (c .state .«hold_tag»)
     unfolding at-rest
-    new = new-tuple-relation (at-rest c) (n .ghosts) (n .inv) (c .state .«hold_register») (c .state .«hold_size») (c .state .«hold_tag») (good-register .0) fr fit (good-register .1)
+    new = new-tuple-made (at-rest c) (n .ghosts) (n .inv) (c .state .«hold_register») (c .state .«hold_size») (c .state .«hold_tag») (good-register .0) fr fit (good-register .1)
 
     made-inv : Inv made-box made-g
     unfolding at-rest
@@ -257,10 +246,12 @@ module _ (m h : ℕ) (b : Box) (t : History) (l : Log) (k : Good m h b t l) (c :
     fields = new-box (at-rest c) (n .inv .shape) (c .state .«hold_register») (c .state .«hold_size») (c .state .«hold_tag») (good-register .0) (free-bounds (at-rest c) (n .ghosts) (n .inv) fr .1) fit
 
     after : Related (unheld made-box) (made-g .plan) (grant (some wanted) t) (l .given ++ c .state .free ∷ []) numbers
-    after = related-granted (at-rest c) (n .ghosts .plan) made-box (made-g .plan) (c .state .free) wanted t (l .given) (k .number) new (n .inv .contents) related (k .eight) (good-register .0)
+    unfolding at-rest
+    after = related-granted (at-rest c) (n .ghosts .plan) made-box (made-g .plan) wanted t (l .given) (k .number) new (n .inv .contents) related (k .eight) (good-register .0)
 
     -- what is kept now was kept, or is the new tuple
     still-spared : (x : ℕ) → Kept (unheld made-box) (made-g .plan) x → Spared started (numbers x)
+    unfolding at-rest
     still-spared x z = go (ℕ-discrete x (c .state .free)) (new .kept-to x (unheld-quiet made-box (made-g .plan) .kept-to x z))
       where
         go : Dec (x ≡ c .state .free) → Kept (at-rest c) (n .ghosts .plan) x ⊎ (x ≡ c .state .free) → Spared started (numbers x)
@@ -277,11 +268,11 @@ module _ (m h : ℕ) (b : Box) (t : History) (l : Log) (k : Good m h b t l) (c :
 
     -- the handle that the log notes
     noted : given-held (l .pending) (unheld made-box) (l .given) ≡ l .given ++ c .state .free ∷ []
-    unfolding given-held unheld
+    unfolding given-held unheld at-rest
     noted =
         ap (λ (o : Option Pending). given-held o (unheld made-box) (l .given)) (y .pending-is)
         ∙ ap (λ (q : Asked). l .given ++ handle-of (register (q .register) made-box) ∷ []) (y .what .asked-is ∙ asked-wanted y)
-        ∙ ap (λ (x : ℕ). l .given ++ x ∷ []) (ap handle-of (new .register-made) ∙ pointer-handle (c .state .free) 0 (lit< tt))
+        ∙ ap (λ (x : ℕ). l .given ++ x ∷ []) (new .made-handle)
 
     abbrev given-now : List ℕ
     given-now = given-held (l .pending) (unheld made-box) (l .given)
@@ -297,7 +288,7 @@ module _ (m h : ℕ) (b : Box) (t : History) (l : Log) (k : Good m h b t l) (c :
     unfolding grant
     more-made =
         let u : made started ≤ made t = last .known .tracked .not-fewer in
-        let q : made (make (wanted .register) (wanted .size) (wanted .tag) t) ≡ suc (made t) = made-relation.made-make (wanted .register) (wanted .size) (wanted .tag) t in
+        let q : made (make (wanted .register) (wanted .size) (wanted .tag) t) ≡ suc (made t) = made-make (wanted .register) (wanted .size) (wanted .tag) t in
         omega arith
 
     ended-granted : Past m h (end-log-cycle (cycle-step b t (l .cycle)) (unheld made-box) given-now (l .ended)) (answer-hold (wait-step (l .pending)) 32 (l .answered))

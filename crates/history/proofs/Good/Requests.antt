@@ -1,6 +1,6 @@
 -- Every request leaves all as it should be, and none answers 9: by cases on the view of requests, each met by its lemma. Assumes
 -- nothing.
-use Prim.Native.Nat.{ℕ, _+_, _≤_}
+use Prim.Native.Nat.{ℕ, _+_}
 use mathlib.Core.Bool.{true, false, true≢false, cond}
 use mathlib.Core.Logic.{_≢_}
 use mathlib.Core.Path.{sym, _∙_, subst}
@@ -13,24 +13,17 @@ use Rattle.memory.specs.Place.{place, read}
 use Rattle.memory.specs.Request.{same-word, request}
 use Rattle.history.specs.Machine.{History, feed, ask, do-request}
 use Rattle.history.specs.Calls.{Log, given-by, log-request, RequestInWidth}
-use Rattle.history.proofs.Invariant.Statement.{Ghosts, Inv}
-use Rattle.history.proofs.View.Request.{Asked, Loss, named, number as number-in, place-of, asked}
-use Rattle.history.proofs.Marking.InRange.{root-room}
-use Rattle.history.proofs.Asking.InRange.{register-bounds, free-bounds, live-fits, place-in-memory, sound-box}
+use Rattle.history.proofs.Invariant.Statement.{Ghosts}
+use Rattle.history.proofs.View.Request.{Asked, named, number as number-in, place-of, asked}
+use Rattle.history.proofs.Asking.InRange.{sound-box}
 use Rattle.history.proofs.Asking.Registers.{register-takes-data, register-takes-nil, register-takes-register, register-advances, register-loads}
 use Rattle.history.proofs.Asking.Store.{stores-late, stores-marked}
 use Rattle.history.proofs.Relation.Registers.{related-setd, related-nil, related-move, related-advance, related-load, related-size, related-nil-size, related-tag, related-nil-tag, related-same}
 use Rattle.history.proofs.Good.Statement.{Good}
 use Rattle.history.proofs.Good.Asking.{good-hold, good-register, good-new, good-store-data, good-store-deep, good-store-shaded}
+use Rattle.history.proofs.Invariant.Theorems.{never-loss}
 
 -- ---- nothing is lost
-
-no-loss : (b : Box) (g : Ghosts) → Inv b g → Loss b → ⊥
-no-loss b g v (Loss.free-lost n l r o) = o (free-bounds b g v (r .0))
-no-loss b g v (Loss.free-total n l r e p o) = let u : b .state .live + n + 1 ≤ b .state .m = live-fits b g v n (r .1) in omega arith
-no-loss b g v (Loss.handle-lost s l p o) = o (register-bounds b g v s l p)
-no-loss b g v (Loss.place-past s l p e i u o) = true≢false (sym (place-in-memory b g v (named s b) i (v .contents .roots-kept s l p) u) ∙ o)
-no-loss b g v (Loss.stored-total r l p a c e u o) = let w : b .state .live + size-of (named r b) b + 1 ≤ b .state .m = root-room b g v c r l p u in omega arith
 
 -- ---- what is to be shown of a reply
 
@@ -61,7 +54,7 @@ module _ (m h : ℕ) (b : Box) (t : History) (l : Log) (k : Good m h b t l) wher
   unfolding given-by
   by-view q w (Asked.refuses-unsound s e) = absurd (true≢false (sym (sound-box b g (k .inv)) ∙ s))
   by-view q w (Asked.refuses a x y z e) = subst (λ (r : Reply). GoodReply m h q r t l) (sym e) (refused-reply m h q b t l a x y z k)
-  by-view q w (Asked.refuses-lost s u o e) = absurd (no-loss b g (k .inv) o)
+  by-view q w (Asked.refuses-lost s u o e) = absurd (never-loss b g (k .inv) o)
   by-view q w (Asked.holds {r} {n} {t = tag} s u lr a o e) = subst (λ (x : Reply). GoodReply m h (Getm r n tag) x t l) (sym e) (held-reply m h (Getm r n tag) _ t l (good-hold m h b t l k r n tag lr (w .2) u))
   by-view q w (Asked.sets-data {r} {v} s u lr e) = subst (λ (x : Reply). GoodReply m h (Setd r v) x t l) (sym e) (done-reply m h (Setd r v) _ t l (good-register m h b t l k u (Setd r v) r (data-word v) (register-takes-data b g (k .inv) r v lr) (related-setd b g t (l .given) (k .number) (k .inv) (k .related) (k .eight) r v lr)))
   by-view q w (Asked.sets-nil {r} s u lr e) = subst (λ (x : Reply). GoodReply m h (Nil r) x t l) (sym e) (done-reply m h (Nil r) _ t l (good-register m h b t l k u (Nil r) r (pointer 0 0) (register-takes-nil b g (k .inv) r lr) (related-nil b g t (l .given) (k .number) (k .inv) (k .related) (k .eight) r lr)))

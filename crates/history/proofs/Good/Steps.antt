@@ -1,26 +1,23 @@
 -- Every step leaves all as it should be and none answers 9; so does every run with a budget, which is so many single steps.
 -- Assumes nothing.
-use Prim.Native.Nat.{ℕ, zero, suc, _≤_, _<_}
+use Prim.Native.Nat.{ℕ, zero, suc}
 use mathlib.Core.Bool.{true, false, true≢false}
 use mathlib.Core.Logic.{_≢_, _⊎_, inl, inr}
 use mathlib.Core.Option.{Option, none}
 use mathlib.Core.Path.{_≡_, refl, sym, _∙_, ap, subst}
 use native.Mathlib.Omega.{arith}
-use Rattle.memory.specs.Limits.{register-count}
 use Rattle.memory.specs.Box.{Box, Reply}
 use Rattle.memory.specs.Collector.{at-rest, end-cycle, step}
 use Rattle.memory.specs.Run.{Ran, ran, counted, Course, goes-on as going-on, stops, refuses, course, run-on, run}
 use Rattle.history.specs.Machine.{Asked, History, grant, with-hold, feed, run-for}
 use Rattle.history.specs.Calls.{Log, log-step, log-steps}
-use Rattle.history.proofs.Invariant.Statement.{Ghosts, Inv}
 use Rattle.history.proofs.Invariant.Frame.{Next}
-use Rattle.history.proofs.View.Tests.{Entry}
-use Rattle.history.proofs.View.End.{Ending, ending}
 use Rattle.history.proofs.Invariant.Stepping.{SameHold, EndsSpared, Stepped, stepped}
-use Rattle.history.proofs.Asking.InRange.{free-bounds, sound-box}
+use Rattle.history.proofs.Asking.InRange.{sound-box}
 use Rattle.history.proofs.Good.Statement.{Waiting, nothing-held, one-held, Good}
 use Rattle.history.proofs.Good.Going.{good-on}
 use Rattle.history.proofs.Good.Ending.{good-free, good-held, good-dropped, good-granted}
+use Rattle.history.proofs.Invariant.CycleEnd.{CycleEnd, cycle-end}
 
 -- what a step answers, and what it leaves of both machines and the log
 pub data After (m h : ℕ) (b : Box) (t : History) (l : Log) (r : Reply) : Type 0 where
@@ -32,35 +29,18 @@ pub data After (m h : ℕ) (b : Box) (t : History) (l : Log) (r : Reply) : Type 
   given : r .answer ≡ 32 → Good m h (r .box) (grant (t .hold) t) (log-step b r t l) → After m h b t l r
   dropped : r .answer ≡ 8 → Good m h (r .box) (with-hold none t) (log-step b r t l) → After m h b t l r
 
--- a hold that would be granted can be
-rest-register : (c : Box) (g : Ghosts) → Inv (at-rest c) g → c .state .held ≡ true → c .state .«hold_register» < register-count
-unfolding at-rest
-rest-register c g v p = v .shape .held-register p .0
-
-rest-free : (c : Box) (g : Ghosts) → Inv (at-rest c) g → c .state .free ≢ 0 → Entry (c .state .free) c
-unfolding at-rest
-rest-free c g v f = free-bounds (at-rest c) g v f
-
 module _ (m h : ℕ) (b : Box) (t : History) (l : Log) (k : Good m h b t l) where
   -- an end of the cycle, by what becomes of the hold
-  by-ending : (c : Box) (n : Next b (k .ghosts) (at-rest c)) → b .state .phase ≢ 0 → SameHold b c → c .state .begun ≡ b .state .begun → EndsSpared b (k .ghosts) (at-rest c) (n .ghosts .plan) → Ending b c → After m h b t l (end-cycle b c)
+  by-ending : (c : Box) (n : Next b (k .ghosts) (at-rest c)) → b .state .phase ≢ 0 → SameHold b c → c .state .begun ≡ b .state .begun → EndsSpared b (k .ghosts) (at-rest c) (n .ghosts .plan) → CycleEnd b c (n .ghosts) → After m h b t l (end-cycle b c)
   unfolding log-step
-  by-ending c n d s a sp (Ending.ends-free p e) = subst (After m h b t l) (sym e) (free refl (none-held (k .waiting)) (good-free m h b t l k c n d s a sp p))
+  by-ending c n d s a sp (CycleEnd.ends-free p e) = subst (After m h b t l) (sym e) (free refl (none-held (k .waiting)) (good-free m h b t l k c n d s a sp p))
     where
       none-held : Waiting b (k .ghosts) t (l .pending) → t .hold ≡ none
       none-held (nothing-held q x o) = x
       none-held (one-held q y x w o z) = absurd (true≢false (sym q ∙ sym (s .held-same) ∙ p))
-  by-ending c n d s a sp (Ending.ends-held p o q e) = subst (After m h b t l) (sym e) (on (inr refl) (good-held m h b t l k c n d s a sp p q))
-  by-ending c n d s a sp (Ending.ends-dropped p o q e) = subst (After m h b t l) (sym e) (dropped refl (good-dropped m h b t l k c n d s a sp p q o))
-  by-ending c n d s a sp (Ending.ends-granted p f u r y e) = subst (After m h b t l) (sym e) (given refl (good-granted m h b t l k c n d s a sp p f u))
-  by-ending c n d s a sp (Ending.ends-lost p f u o e) = absurd (lost o)
-    where
-      in-range-then : (c .state .«hold_register» < register-count) × Entry (c .state .free) c
-      in-range-then = (rest-register c (n .ghosts) (n .inv) p, rest-free c (n .ghosts) (n .inv) f)
-
-      lost : (register-count ≤ c .state .«hold_register») ⊎ (¬ Entry (c .state .free) c) → ⊥
-      lost (inl x) = let y : c .state .«hold_register» < register-count = in-range-then .0 in omega arith
-      lost (inr x) = x (in-range-then .1)
+  by-ending c n d s a sp (CycleEnd.ends-held p o q e) = subst (After m h b t l) (sym e) (on (inr refl) (good-held m h b t l k c n d s a sp p q))
+  by-ending c n d s a sp (CycleEnd.ends-dropped p o q e i y) = subst (After m h b t l) (sym e) (dropped refl (good-dropped m h b t l k c n d s a sp p q o))
+  by-ending c n d s a sp (CycleEnd.ends-granted p f u e i y) = subst (After m h b t l) (sym e) (given refl (good-granted m h b t l k c n d s a sp p f u))
 
   pub after-step : After m h b t l (step b)
   unfolding log-step
@@ -68,7 +48,7 @@ module _ (m h : ℕ) (b : Box) (t : History) (l : Log) (k : Good m h b t l) wher
     where
       go : Stepped b (k .ghosts) → After m h b t l (step b)
       go (Stepped.goes-on c e n f s z) = subst (After m h b t l) (sym e) (on (inl refl) (good-on m h b t l k c n f s z))
-      go (Stepped.ends c e n d s a sp) = subst (After m h b t l) (sym e) (by-ending c n d s a sp (ending b c))
+      go (Stepped.ends c e n d s a sp) = subst (After m h b t l) (sym e) (by-ending c n d s a sp (cycle-end b c (n .ghosts) (n .inv)))
 
 -- ---- a run with a budget
 

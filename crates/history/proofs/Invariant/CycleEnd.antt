@@ -11,9 +11,9 @@ use Rattle.memory.specs.Box.{Box, reply}
 use Rattle.memory.specs.Collector.{at-rest, unheld, granted, end-cycle}
 use Rattle.history.proofs.Invariant.Statement.{Ghosts, Inv}
 use Rattle.history.proofs.Invariant.Frame.{Quiet}
-use Rattle.history.proofs.View.Tests.{Entry, NoRoom}
+use Rattle.history.proofs.View.Tests.{Entry, NoRoom, Room}
 use Rattle.history.proofs.View.End.{Ending, ending}
-use Rattle.history.proofs.Asking.InRange.{Room, free-bounds}
+use Rattle.history.proofs.Asking.InRange.{free-bounds}
 use Rattle.history.proofs.Asking.Registers.{invariant-unheld, unheld-quiet}
 use Rattle.history.proofs.Asking.NewTuple.{made-plan, made-ghosts, Made}
 use Rattle.history.proofs.Asking.Grant.{invariant-granted, granted-made}
@@ -43,6 +43,6 @@ cycle-end found c g v = go (ending found c)
     go (Ending.ends-held h n s e) = ends-held h n s e
     go (Ending.ends-dropped h n s e) = ends-dropped h n s e (invariant-unheld (at-rest c) g v) (unheld-quiet (at-rest c) (g .plan))
     go (Ending.ends-granted h f t r x e) =
-        let room : Room (c .state .«hold_size») (at-rest c) = record { some-free = f; words-fit = t } in
+        let room : Room (c .state .«hold_size») (at-rest c) = (f, t) in
         ends-granted h f t e (invariant-granted (at-rest c) g v h room) (granted-made (at-rest c) g v h room)
     go (Ending.ends-lost h f t x e) = absurd (lost h f x)

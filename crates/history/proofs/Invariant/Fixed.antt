@@ -1,7 +1,7 @@
 -- The invariant fixes the ghosts that it speaks of: where the tuples ahead begin, by the phase; which they are, since the word where each
 -- begins names it; and the tuples that wait for a scan, since they are the chains of the two lists. Each by induction on the two
 -- lists or by the stage. Assumes nothing.
-use Prim.Native.Nat.{ℕ, _+_, _≤_, _<_}
+use Prim.Native.Nat.{ℕ, _+_, _≤_}
 use mathlib.Core.Bool.{false}
 use mathlib.Core.List.{List, [], _∷_, _++_}
 use mathlib.Core.Logic.{inl, inr}
@@ -11,9 +11,10 @@ use lib.ListN.{getD}
 use Rattle.memory.specs.Box.{Box, word-at, address, size-of}
 use Rattle.memory.specs.Collector.{after}
 use Rattle.history.specs.Agreement.{Member}
-use Rattle.history.proofs.Invariant.Statement.{Scans, Ghosts, Inv, Chain, Laid, listed, Unswept, Stage, at-rest, finding, scanning, adding, sweeping, reading, clearing, writing, zeroing}
+use Rattle.history.proofs.Invariant.Statement.{Scans, Ghosts, Inv, Chain, Laid, listed, Stage, at-rest, finding, scanning, adding, sweeping, reading, clearing, writing, zeroing}
 use Rattle.history.proofs.Lists.Handles.{member-left, member-right}
 use Rattle.history.proofs.Lists.Laid.{laid-le, laid-from, laid-to, laid-words}
+use Rattle.history.proofs.Invariant.Stages.{unswept-of, ahead-entry, sweeps-of}
 
 -- ---- two lists that lie alike, and two chains from one head
 
@@ -50,36 +51,11 @@ chain-unique links head (x ∷ xs) (y ∷ ys) f g c d =
 
 -- ---- where the tuples ahead begin
 
-pub unswept-stage : (b : Box) (g : Ghosts) → Inv b g → b .state .phase ≤ 3 → Unswept g
-unswept-stage b g v l = by-stage (v .stage)
-  where
-    by-stage : Stage b g → Unswept g
-    by-stage (at-rest p u k n) = u
-    by-stage (finding p u m n) = u
-    by-stage (scanning p u s c k) = u
-    by-stage (adding p u s c t k) = u
-    by-stage (sweeping p k m w a z hs e) = absurd (omega arith)
-    by-stage (reading p m i z) = absurd (omega arith)
-    by-stage (clearing p m i z) = absurd (omega arith)
-    by-stage (writing p m i z) = absurd (omega arith)
-    by-stage (zeroing p k m w a d i z) = absurd (omega arith)
-
 pub base-unswept : (b : Box) (g : Ghosts) → Inv b g → b .state .phase ≤ 3 → g .plan .base ≡ 0
-base-unswept b g v l = unswept-stage b g v l .base-zero
+base-unswept b g v l = unswept-of b g (v .stage) l .base-zero
 
 pub base-sweep : (b : Box) (g : Ghosts) → Inv b g → b .state .phase ≡ 4 → g .plan .base ≡ b .state .src
-base-sweep b g v f = by-stage (v .stage)
-  where
-    by-stage : Stage b g → g .plan .base ≡ b .state .src
-    by-stage (at-rest p u k n) = absurd (omega arith)
-    by-stage (finding p u m n) = absurd (omega arith)
-    by-stage (scanning p u s c k) = absurd (omega arith)
-    by-stage (adding p u s c t k) = absurd (omega arith)
-    by-stage (sweeping p k m w a z hs e) = a
-    by-stage (reading p m i z) = absurd (omega arith)
-    by-stage (clearing p m i z) = absurd (omega arith)
-    by-stage (writing p m i z) = absurd (omega arith)
-    by-stage (zeroing p k m w a d i z) = absurd (omega arith)
+base-sweep b g v f = sweeps-of b g (v .stage) f .base-is
 
 pub base-behind : (b : Box) (g : Ghosts) → Inv b g → 5 ≤ b .state .phase → g .plan .base ≡ after b
 base-behind b g v l = by-stage (v .stage)
@@ -128,12 +104,6 @@ ahead-carried b c g a hs l s v e =
 
 -- ---- handles that can be looked up
 
-pub ahead-entry : (b : Box) (g : Ghosts) → Inv b g → (h : ℕ) → Member h (g .plan .ahead) → (1 ≤ h) × (h < b .state .h)
-ahead-entry b g v h m =
-    v .handles .entries h
-    (member-right h (g .plan .done) (g .plan .mid ++ (g .plan .ahead ++ g .free))
-    (member-right h (g .plan .mid) (g .plan .ahead ++ g .free) (member-left h (g .plan .ahead) (g .free) m)))
-
 pub nexts-listed : (s : Scans) (h : ℕ) → Member h (s .nexts) → Member h (listed s)
 nexts-listed s h m = member-right h (s .gray) (s .nexts ++ s .currents) (member-left h (s .nexts) (s .currents) m)
 
@@ -141,10 +111,10 @@ pub currents-listed : (s : Scans) (h : ℕ) → Member h (s .currents) → Membe
 currents-listed s h m = member-right h (s .gray) (s .nexts ++ s .currents) (member-right h (s .nexts) (s .currents) m)
 
 pub nexts-entry : (b : Box) (g : Ghosts) → Inv b g → (h : ℕ) → Member h (g .scans .nexts) → 1 ≤ h
-nexts-entry b g v h m = ahead-entry b g v h (v .marks .listed-ahead h (nexts-listed (g .scans) h m)) .0
+nexts-entry b g v h m = ahead-entry b (g .plan) (g .free) h (v .handles) (v .marks .listed-ahead h (nexts-listed (g .scans) h m)) .0
 
 pub currents-entry : (b : Box) (g : Ghosts) → Inv b g → (h : ℕ) → Member h (g .scans .currents) → 1 ≤ h
-currents-entry b g v h m = ahead-entry b g v h (v .marks .listed-ahead h (currents-listed (g .scans) h m)) .0
+currents-entry b g v h m = ahead-entry b (g .plan) (g .free) h (v .handles) (v .marks .listed-ahead h (currents-listed (g .scans) h m)) .0
 
 -- ---- the tuples that wait for a scan
 

@@ -19,7 +19,7 @@ use Rattle.history.proofs.Invariant.Frame.{Next}
 use Rattle.history.proofs.Invariant.Resting.{resting}
 use Rattle.history.proofs.Relation.Statement.{Related}
 use Rattle.history.proofs.Spared.Tracked.{Spared, Tracked, root-spared}
-use Rattle.history.proofs.Spared.Steps.{unswept-stage, kept-ahead, tracked-rests, tracked-marks, tracked-sweep, tracked-swept, ended-spared, shade-marked-only, scanned-spared}
+use Rattle.history.proofs.Spared.Steps.{tracked-rests, tracked-marks, tracked-sweep, tracked-swept, ended-spared, shade-marked-only, scanned-spared}
 use Rattle.history.proofs.View.Tests.{true-is-not-false}
 use Rattle.history.proofs.View.Step.{rested, scanned-data, scanned-pointer, swept-size, swept-after, kept-last, kept, move-begun, released, zero-begun, copied, moved-last, moved, cleared, zeroed-last, RootsMarked, Reason, Step, view}
 use Rattle.history.proofs.Marking.Alike.{none-wait, Onward, onward-next}
@@ -29,7 +29,7 @@ use Rattle.history.proofs.Marking.Scan.{scans-data, scans-pointer, scan
 use Rattle.history.proofs.Marking.Complete.{begins-sweep-onward, ends-empty-inv, ends-empty-calm}
 use Rattle.history.proofs.Marking.InRange.{next-entry, current-entry, root-entry, tuple-entry, root-room, tuple-room, scan-room}
 use Rattle.history.proofs.Asking.InRange.{sound-box}
-use Rattle.history.proofs.Sweep.Stages.{ended-next}
+use Rattle.history.proofs.Sweep.Ghosts.{ended-next}
 use Rattle.history.proofs.Sweep.Keep.{keeps, keeps-last}
 use Rattle.history.proofs.Sweep.MoveBegins.{starts-move}
 use Rattle.history.proofs.Sweep.Release.{releases, starts-zero}
@@ -43,6 +43,7 @@ use Rattle.history.proofs.Moving.Ending.{ends-move}
 use Rattle.history.proofs.Moving.Tuple.{read-fits, Finishes, finish-fits, clear-fits, write-fits}
 use Rattle.history.proofs.Left.Count.{left}
 use Rattle.history.proofs.Left.Steps.{step-left}
+use Rattle.history.proofs.Invariant.Stages.{kept-ahead, unswept-of}
 
 -- ---- the result
 
@@ -179,14 +180,14 @@ unfolding begin-sweep
 step-begins-sweep b g v p z roots t s =
     let c : Box = begin-sweep b in
     let o : Onward b g c (g .scans) = begins-sweep-onward b g v p z roots t in
-    let u : Unswept g = unswept-stage b g (v .stage) (omega arith) in
+    let u : Unswept g = unswept-of b g (v .stage) (omega arith) in
     goes b g v c s (record { ghosts = g; inv = o .inv; calm = o .calm }) (search)
     (tracks (omega arith) (omega arith) refl (λ m given number started r x. tracked-sweep b g v c (g .plan) (o .calm) m number started x (omega arith) refl (λ h. refl) (u .no-done) (u .no-mid)))
 
 step-ends-empty : (b : Box) (g : Ghosts) → Inv b g → b .state .phase ≡ 1 → b .state .next ≡ 0 → b .state .top ≡ 0 → step b ≡ end-cycle b b → Stepped b g
 step-ends-empty b g v p z t s =
     ends b s (record { ghosts = resting [] (g .free); inv = ends-empty-inv b g v p z t; calm = ends-empty-calm b (g .plan) }) (omega arith) (search) refl
-    (λ m given number started r x h k. absurd (kept-ahead (at-rest b) (resting [] (g .free)) (record { no-done = refl; no-mid = refl; low-zero = refl; base-zero = refl; zeroed-zero = refl }) h k))
+    (λ m given number started r x h k. absurd (kept-ahead (at-rest b) (resting [] (g .free)) h (record { no-done = refl; no-mid = refl; low-zero = refl; base-zero = refl; zeroed-zero = refl }) k))
 
 -- ---- 2
 

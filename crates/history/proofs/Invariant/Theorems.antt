@@ -23,7 +23,7 @@ use Rattle.history.proofs.View.Request.{named, number, Loss, There, Ask
 use Rattle.history.proofs.Marking.Alike.{with-scans}
 use Rattle.history.proofs.Marking.Shade.{shade-scans}
 use Rattle.history.proofs.Marking.InRange.{root-room}
-use Rattle.history.proofs.Asking.Opening.{handles-below, invariant-open as opened-invariant}
+use Rattle.history.proofs.Asking.Opening.{handles-below, opened-inv}
 use Rattle.history.proofs.Asking.InRange.{register-bounds, place-in-memory, free-bounds, live-fits, sound-box}
 use Rattle.history.proofs.Asking.Registers.{register-takes-data, register-takes-nil, register-takes-register, register-advances, register-loads, invariant-hold}
 use Rattle.history.proofs.Asking.NewTuple.{made-ghosts, invariant-new-tuple}
@@ -60,7 +60,7 @@ opened-by m h b e = go (right-sizes m h b) refl
 pub invariant-open : (m h : ℕ) (b : Box) → opening m h b .answer ≡ 0 → Inv (opening m h b .box) (resting [] (handles-below h))
 invariant-open m h b e =
     let o = opened-by m h b e in
-    subst (λ (r : Reply). Inv (r .box) (resting [] (handles-below h))) (sym (o .1)) (opened-invariant m h (o .0))
+    subst (λ (r : Reply). Inv (r .box) (resting [] (handles-below h))) (sym (o .1)) (opened-inv m h (o .0))
 
 -- ---- a step
 

@@ -1,19 +1,18 @@
 -- Where a word of a tuple is, as laws of `word`, one for each case of document 01's rule. Each follows from the tests of
--- `place` at the facts in hand. Assumes nothing.
+-- `place` at the facts in hand. Then the laws of a word put at an address, and of pointers. Assumes nothing.
 use Prim.Native.Nat.{ℕ, _+_, _≤_, _<_}
-use mathlib.Core.Bool.{Bool, true, false, _&&_}
+use mathlib.Core.Bool.{true, false, not}
 use mathlib.Core.Logic.{_≢_}
-use mathlib.Core.Path.{_≡_, refl}
+use mathlib.Core.Path.{_≡_}
+use lib.ListN.{length}
+use lib.Seq.{getD-set-same, getD-set-other}
 use borrow.Author.Tests.{le-leb, lt-leb, lt-ltb, le-ltb, eq-eqb, ne-eqb}
 use native.Mathlib.Omega.{arith}
-use Rattle.memory.specs.Box.{Box, word-at, copy-register, address}
+use Rattle.memory.specs.Limits.{half-word}
+use Rattle.memory.specs.Box.{Box, Word, word-at, put, copy-register, address, handle-of, pointer, names-tuple, is-nil}
 use Rattle.memory.specs.Place.{being-moved, place, read}
 use Rattle.history.proofs.Invariant.Statement.{word}
-
--- a test that fails makes a conjunction fail
-and-false : (t : Bool) → (t && false) ≡ false
-and-false true = refl
-and-false false = refl
+use Rattle.history.proofs.View.Tests.{and-false, and-left}
 
 -- a tuple that is not being moved is at its address
 pub word-other : (h i : ℕ) (b : Box) → h ≢ b .state .tuple → word h i b ≡ word-at (address h b + i) b
@@ -56,3 +55,20 @@ unfolding word place being-moved read
 word-unread h i b p t =
     let l : b .state .phase < 6 = omega arith in
     simp (lt-leb 6 (b .state .phase) l, le-ltb i (b .state .index) t, and-false)
+
+-- ---- a word put at an address: it is there, and every other address has its word as before
+
+pub put-same : (a : ℕ) (w : Word) (b : Box) → a < length (b .words) → a < length (b .flags) → word-at a (put a w b) ≡ w
+put-same a w b l u = λ i. record { bits = getD-set-same (b .words) a (w .bits) 0 l i; flag = getD-set-same (b .flags) a (w .flag) false u i }
+
+pub put-other : (a : ℕ) (w : Word) (b : Box) (x : ℕ) → x ≢ a → word-at x (put a w b) ≡ word-at x b
+put-other a w b x n = λ i. record { bits = getD-set-other (b .words) a x (w .bits) 0 n i; flag = getD-set-other (b .flags) a x (w .flag) false n i }
+
+-- ---- pointers
+
+pub names-flag : (w : Word) → names-tuple w ≡ true → w .flag ≡ true
+names-flag w n = and-left (w .flag) (not (is-nil w)) n
+
+-- a pointer's handle, its offset being of 16 bits
+pub pointer-handle : (h o : ℕ) → o < half-word → handle-of (pointer h o) ≡ h
+pointer-handle h o l = omega arith

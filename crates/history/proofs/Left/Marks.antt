@@ -17,7 +17,8 @@ use Rattle.history.proofs.Lists.Chain.{chain-push, chain-set-other, cha
 use Rattle.history.proofs.Lists.Laid.{laid-from}
 use Rattle.history.proofs.Left.Count.{left, SameSizes, SameMarks}
 use Rattle.history.proofs.Left.Falls.{SameAhead, SameMarking, SameLists, SamePlace, OneOn, Shaded, falls-rest, falls-takes-next, falls-shades-root, falls-begins-sweep, falls-scans-data, falls-scans-pointer, falls-scan-ends, falls-takes-current, falls-adds-marked, falls-adds-unmarked}
-use Rattle.history.proofs.Invariant.Fixed.{same-columns, ahead-carried, base-unswept, base-sweep, ahead-entry, nexts-entry, currents-entry, nexts-listed, currents-listed, nexts-fixed, currents-fixed}
+use Rattle.history.proofs.Invariant.Fixed.{same-columns, ahead-carried, base-unswept, base-sweep, nexts-entry, currents-entry, nexts-listed, currents-listed, nexts-fixed, currents-fixed}
+use Rattle.history.proofs.Invariant.Stages.{ahead-entry}
 
 -- ---- what a transition leaves
 
@@ -121,7 +122,7 @@ shaded b g c g′ h v w l k s m f =
     }
   where
     entry : (1 ≤ h) × (h < b .state .h)
-    entry = ahead-entry b g v h m
+    entry = ahead-entry b (g .plan) (g .free) h (v .handles) m
 
     within-marks : h < length (b .marks)
     within-marks = omega (arith, entry .1, v .shape .marks-length)

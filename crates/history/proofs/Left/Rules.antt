@@ -14,15 +14,14 @@ use Rattle.memory.specs.Box.{Box, Word, data-word, handle-of, names-tuple, with
 use Rattle.memory.specs.Place.{list-next, mark-live, shade}
 use Rattle.memory.specs.Collector.{to-phase, after, scan, begin-sweep, go-on, settle-move, write-copy, zero-word}
 use Rattle.history.specs.Agreement.{Member}
-use Rattle.history.proofs.Invariant.Statement.{Ghosts, Inv, Kept, settled, moving, unswept, surviving, Stage, at-rest, finding, scanning, adding, sweeping, reading, clearing, writing, zeroing, Unswept, Move}
+use Rattle.history.proofs.Invariant.Statement.{Ghosts, Inv, Move}
 use Rattle.history.proofs.Lists.Handles.{parts, member-differs}
-use Rattle.history.proofs.Invariant.Fixed.{unswept-stage}
 use Rattle.history.proofs.Left.Count.{left}
 use Rattle.history.proofs.Left.Falls.{SamePlace}
 use Rattle.history.proofs.Left.Marks.{Listing, unlisted, listed-first, ShadedBox, left-takes-next, left-shades-root, left-begins-sweep, left-scan-ends, left-takes-current, left-adds-marked, left-adds-unmarked}
-use Rattle.history.proofs.Left.Sweeps.{move-within, left-moves-on, left-clears, left-writes, left-zeroes, left-zero-on}
-
--- ---- 0
+use Rattle.history.proofs.Left.Sweeps.{left-moves-on, left-clears, left-writes, left-zeroes, left-zero-on}
+use Rattle.history.proofs.Invariant.Words.{put-other}
+use Rattle.history.proofs.Invariant.Stages.{unswept-of, kept-ahead, adding-of, at-read, at-clear, at-write}
 
 -- ---- 1
 
@@ -64,19 +63,12 @@ shade-numbers h b f = go (deep h b) refl
     go true e = record { phase-is = simp (f, e); place = record { size = simp (f, e); index = simp (f, e) } }
     go false e = record { phase-is = simp (f, e); place = record { size = simp (f, e); index = simp (f, e) } }
 
--- before the sweep every kept tuple lies ahead
-kept-ahead : (b : Box) (g : Ghosts) (h : ℕ) → Unswept g → Kept b (g .plan) h → Member h (g .plan .ahead)
-kept-ahead b g h u (settled m) = absurd (subst (λ (l : List ℕ). Member h l) (u .no-done) m)
-kept-ahead b g h u (moving m) = absurd (subst (λ (l : List ℕ). Member h l) (u .no-mid) m)
-kept-ahead b g h u (unswept m l) = m
-kept-ahead b g h u (surviving m t) = m
-
 pub fewer-shades-root : (b : Box) (g g′ : Ghosts) → Inv b g → b .state .phase ≡ 1 → (r : ℕ) → r < register-count → names-tuple (register r b) ≡ true
     → marked (handle-of (register r b)) b ≡ false → Inv (shade (handle-of (register r b)) b) g′ → left (shade (handle-of (register r b)) b) g′ < left b g
 fewer-shades-root b g g′ v p r l n f w =
     let h : ℕ = handle-of (register r b) in
     left-shades-root b g (shade h b) g′ h v w p (shade-numbers h b f .phase-is ∙ p) (shade-box h b f)
-    (kept-ahead b g h (unswept-stage b g v (omega arith)) (v .contents .roots-kept r l n)) f
+    (kept-ahead b g h (unswept-of b g (v .stage) (omega arith)) (v .contents .roots-kept r l n)) f
 
 pub fewer-begins-sweep : (b : Box) (g g′ : Ghosts) → Inv b g → b .state .phase ≡ 1 → Inv (begin-sweep b) g′ → left (begin-sweep b) g′ < left b g
 unfolding begin-sweep
@@ -96,21 +88,6 @@ fewer-takes-current b g g′ v p n w = left-takes-current b g (scan (b .state .c
 
 pub fewer-adds-marked : (b : Box) (g g′ : Ghosts) → Inv b g → b .state .phase ≡ 3 → Inv (to-phase 2 b) g′ → left (to-phase 2 b) g′ < left b g
 fewer-adds-marked b g g′ v p w = left-adds-marked b g (to-phase 2 b) g′ v w p refl (search) (search) (search)
-
--- the tuple to be added lies ahead
-adding-ahead : (b : Box) (g : Ghosts) → Inv b g → b .state .phase ≡ 3 → Member (b .state .tuple) (g .plan .ahead)
-adding-ahead b g v f = by-stage (v .stage)
-  where
-    by-stage : Stage b g → Member (b .state .tuple) (g .plan .ahead)
-    by-stage (at-rest p u k n) = absurd (omega arith)
-    by-stage (finding p u m n) = absurd (omega arith)
-    by-stage (scanning p u s c k) = absurd (omega arith)
-    by-stage (adding p u s c t k) = t
-    by-stage (sweeping p k m w a z hs e) = absurd (omega arith)
-    by-stage (reading p m i z) = absurd (omega arith)
-    by-stage (clearing p m i z) = absurd (omega arith)
-    by-stage (writing p m i z) = absurd (omega arith)
-    by-stage (zeroing p k m w a d i z) = absurd (omega arith)
 
 -- the phase is no part of it
 phase-shaded : (b c : Box) (h p : ℕ) → ShadedBox b c h → ShadedBox b (to-phase p c) h
@@ -132,27 +109,10 @@ fewer-adds-unmarked b g g′ v p f w =
     let n : ShadeNumbers b (shade (b .state .tuple) b) = shade-numbers (b .state .tuple) b f in
     left-adds-unmarked b g (to-phase 2 (shade (b .state .tuple) b)) g′ (b .state .tuple) v w p refl
     (phase-shaded b (shade (b .state .tuple) b) (b .state .tuple) 2 (shade-box (b .state .tuple) b f))
-    (adding-ahead b g v p) f
+    (adding-of b g (v .stage) p .tuple-ahead) f
     (record { size = n .place .size; index = n .place .index })
 
--- ---- 4
-
 -- ---- 5
-
--- the tuple that is moved, and where to
-moving-stage : (b : Box) (g : Ghosts) → Inv b g → 5 ≤ b .state .phase → b .state .phase ≤ 7 → Move b g
-moving-stage b g v l k = by-stage (v .stage)
-  where
-    by-stage : Stage b g → Move b g
-    by-stage (at-rest p u s n) = absurd (omega arith)
-    by-stage (finding p u m n) = absurd (omega arith)
-    by-stage (scanning p u s c t) = absurd (omega arith)
-    by-stage (adding p u s c t e) = absurd (omega arith)
-    by-stage (sweeping p u m w a z hs e) = absurd (omega arith)
-    by-stage (reading p m i z) = m
-    by-stage (clearing p m i z) = m
-    by-stage (writing p m i z) = m
-    by-stage (zeroing p u m w a d i z) = absurd (omega arith)
 
 -- it does not lie ahead
 moved-apart : (b : Box) (g : Ghosts) → Inv b g → Move b g → (h : ℕ) → Member h (g .plan .ahead) → h ≢ b .state .tuple
@@ -166,7 +126,7 @@ unfolding go-on settle-move
 fewer-moves-on b g g′ v p w =
     left-moves-on b g (go-on (after (settle-move b)) (settle-move b)) g′ v w p refl
     (record {
-      addresses = λ h x. getD-set-other (b .addresses) (b .state .tuple) h (b .state .dest) 0 (moved-apart b g v (moving-stage b g v (omega arith) (omega arith)) h x);
+      addresses = λ h x. getD-set-other (b .addresses) (b .state .tuple) h (b .state .dest) 0 (moved-apart b g v (at-read b g (v .stage) p .move) h x);
       sizes = λ h. refl;
       words = λ x l. refl;
       top = refl;
@@ -177,14 +137,12 @@ fewer-moves-on b g g′ v p w =
 
 -- a word put below a leaves those from a on
 put-below : (a k : ℕ) (u : Word) (b : Box) → k < a → (x : ℕ) → a ≤ x → word-at x (put k u b) ≡ word-at x b
-put-below a k u b l x m =
-    let n : x ≢ k = omega arith in
-    λ i. record { bits = getD-set-other (b .words) k x (u .bits) 0 n i; flag = getD-set-other (b .flags) k x (u .flag) false n i }
+put-below a k u b l x m = put-other k u b x (omega arith)
 
 pub fewer-clears : (b : Box) (g g′ : Ghosts) → Inv b g → b .state .phase ≡ 6
     → Inv (to-phase 7 (put (b .state .src + b .state .index) (data-word 0) b)) g′ → left (to-phase 7 (put (b .state .src + b .state .index) (data-word 0) b)) g′ < left b g
 fewer-clears b g g′ v p w =
-    let i : b .state .index ≤ b .state .size = move-within b g v (omega arith) (omega arith) in
+    let i : b .state .index ≤ b .state .size = at-clear b g (v .stage) p .index-most in
     left-clears b g (to-phase 7 (put (b .state .src + b .state .index) (data-word 0) b)) g′ v w p refl
     (record {
       addresses = λ h x. refl;
@@ -197,8 +155,8 @@ fewer-clears b g g′ v p w =
 pub fewer-writes : (b : Box) (g g′ : Ghosts) → Inv b g → b .state .phase ≡ 7 → Inv (write-copy b) g′ → left (write-copy b) g′ < left b g
 unfolding write-copy
 fewer-writes b g g′ v p w =
-    let i : b .state .index ≤ b .state .size = move-within b g v (omega arith) (omega arith) in
-    let m : Move b g = moving-stage b g v (omega arith) (omega arith) in
+    let i : b .state .index ≤ b .state .size = at-write b g (v .stage) p .index-most in
+    let m : Move b g = at-write b g (v .stage) p .move in
     left-writes b g (write-copy b) g′ v w p refl
     (record {
       addresses = λ h x. refl;

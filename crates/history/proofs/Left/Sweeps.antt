@@ -7,12 +7,13 @@ use mathlib.Core.Path.{_≡_, sym, ap, _∙_, subst}
 use native.Mathlib.Omega.{arith}
 use Rattle.memory.specs.Box.{Box, size-of}
 use Rattle.memory.specs.Collector.{after}
-use Rattle.history.proofs.Invariant.Statement.{Ghosts, Inv, Laid, Stage, at-rest, finding, scanning, adding, sweeping, reading, clearing, writing, zeroing}
+use Rattle.history.proofs.Invariant.Statement.{Ghosts, Inv, Laid}
 use Rattle.history.proofs.Lists.Laid.{laid-from}
 use Rattle.history.proofs.Left.Count.{left}
 use Rattle.history.proofs.Left.Falls.{SameAhead, FirstGone, SamePlace, OneOn, falls-sweeps-on, falls-starts-move, falls-starts-zero, falls-copies-high, falls-copies-low, falls-moves-on, falls-clears, falls-writes, falls-zeroes, falls-zero-on}
 use Rattle.history.proofs.Left.Marks.{SameHeap}
 use Rattle.history.proofs.Invariant.Fixed.{SameLaid, same-columns, ahead-carried, base-sweep, base-behind}
+use Rattle.history.proofs.Invariant.Stages.{Sweeps, sweeps-of, at-clear}
 
 -- ---- what the stage says
 
@@ -23,37 +24,10 @@ pub record SweptFirst (b : Box) (g : Ghosts) : Type 0 where
   pub behind-laid : Laid b (b .state .src + size-of (b .state .tuple) b + 1) behind (b .state .top)
 
 pub swept-first : (b : Box) (g : Ghosts) → Inv b g → b .state .phase ≡ 4 → SweptFirst b g
-swept-first b g v f = by-stage (v .stage)
-  where
-    from-src : (hs : List ℕ) → g .plan .base ≡ b .state .src → g .plan .ahead ≡ b .state .tuple ∷ hs → Laid b (b .state .src) (b .state .tuple ∷ hs) (b .state .top)
-    from-src hs a e =
-        subst (λ (l : List ℕ). Laid b (b .state .src) l (b .state .top)) e (laid-from b (g .plan .base) (b .state .src) (g .plan .ahead) (b .state .top) a (v .layout .ahead-laid))
-
-    by-stage : Stage b g → SweptFirst b g
-    by-stage (at-rest p u k n) = absurd (omega arith)
-    by-stage (finding p u m n) = absurd (omega arith)
-    by-stage (scanning p u s c k) = absurd (omega arith)
-    by-stage (adding p u s c t k) = absurd (omega arith)
-    by-stage (sweeping p k m w a z hs e) = record { behind = hs; ahead-is = e; behind-laid = from-src hs a e .2 }
-    by-stage (reading p m i z) = absurd (omega arith)
-    by-stage (clearing p m i z) = absurd (omega arith)
-    by-stage (writing p m i z) = absurd (omega arith)
-    by-stage (zeroing p k m w a d i z) = absurd (omega arith)
-
--- in phases 6 and 7 a word of the tuple is under way
-pub move-within : (b : Box) (g : Ghosts) → Inv b g → 6 ≤ b .state .phase → b .state .phase ≤ 7 → b .state .index ≤ b .state .size
-move-within b g v l u = by-stage (v .stage)
-  where
-    by-stage : Stage b g → b .state .index ≤ b .state .size
-    by-stage (at-rest p w k n) = absurd (omega arith)
-    by-stage (finding p w m n) = absurd (omega arith)
-    by-stage (scanning p w s c k) = absurd (omega arith)
-    by-stage (adding p w s c t k) = absurd (omega arith)
-    by-stage (sweeping p k m w a z hs e) = absurd (omega arith)
-    by-stage (reading p m i z) = absurd (omega arith)
-    by-stage (clearing p m i z) = i
-    by-stage (writing p m i z) = i
-    by-stage (zeroing p k m w a d i z) = absurd (omega arith)
+swept-first b g v f =
+    let s : Sweeps b g = sweeps-of b g (v .stage) f in
+    let l : Laid b (b .state .src) (g .plan .ahead) (b .state .top) = laid-from b (g .plan .base) (b .state .src) (g .plan .ahead) (b .state .top) (s .base-is) (v .layout .ahead-laid) in
+    record { behind = s .behind; ahead-is = s .ahead-is; behind-laid = subst (λ (hs : List ℕ). Laid b (b .state .src) hs (b .state .top)) (s .ahead-is) l .2 }
 
 -- ---- the tuples ahead
 
@@ -120,7 +94,7 @@ left-moves-on b g c g′ v w p q s e = falls-moves-on b g c g′ p q (same-behin
 pub left-clears : (b : Box) (g : Ghosts) (c : Box) (g′ : Ghosts) → Inv b g → Inv c g′ → b .state .phase ≡ 6 → c .state .phase ≡ 7
     → SameLaid b c (after b) (g .plan .ahead) → c .state .src ≡ b .state .src → SamePlace b c → left c g′ < left b g
 left-clears b g c g′ v w p q s e o =
-    falls-clears b g c g′ p q (same-behind b g c g′ v w s (omega arith) (after-same b c g′ w (omega arith) e (o .size))) o (move-within b g v (omega arith) (omega arith))
+    falls-clears b g c g′ p q (same-behind b g c g′ v w s (omega arith) (after-same b c g′ w (omega arith) e (o .size))) o (at-clear b g (v .stage) p .index-most)
 
 pub left-writes : (b : Box) (g : Ghosts) (c : Box) (g′ : Ghosts) → Inv b g → Inv c g′ → b .state .phase ≡ 7 → c .state .phase ≡ 5
     → SameLaid b c (after b) (g .plan .ahead) → c .state .src ≡ b .state .src → OneOn b c → left c g′ < left b g

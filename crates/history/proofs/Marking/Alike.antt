@@ -13,7 +13,7 @@ use Rattle.history.specs.Agreement.{Member, Distinct}
 use Rattle.history.proofs.Invariant.Statement.{Plan, Scans, Ghosts, Inv, listed, word, rooms, marked-rooms, Chain, Kept, settled, moving, unswept, surviving, Shape, Handles, Layout, Zero, Marks, Unswept, Stage}
 use Rattle.history.proofs.Invariant.Words.{word-early}
 use Rattle.history.proofs.Lists.Handles.{member?}
-use Rattle.history.proofs.Marking.Stages.{unswept-of}
+use Rattle.history.proofs.Invariant.Stages.{unswept-of}
 use Rattle.history.proofs.Invariant.Frame.{hold-of, shape-same, handles-same, layout-same, Quiet, quiet-contents, quiet-calm, Calm, Next}
 use Rattle.history.proofs.Lists.Laid.{rooms-frame, marked-rooms-frame}
 

@@ -6,7 +6,6 @@ use mathlib.Core.List.{List, [], _∷_, _++_}
 use mathlib.Core.Logic.{_≢_}
 use mathlib.Core.Path.{_≡_, refl, sym, _∙_, ap, subst}
 use native.Mathlib.Omega.{arith}
-use Rattle.memory.specs.Limits.{register-count}
 use Rattle.memory.specs.Box.{Box, Word, handle-of, names-tuple, word-at, register, size-of, marked, deep}
 use Rattle.memory.specs.Collector.{at-rest, begin-sweep}
 use Rattle.history.specs.Agreement.{Member}
@@ -16,14 +15,10 @@ use Rattle.history.proofs.Lists.Chain.{chain-empty, chain-none}
 use Rattle.history.proofs.Lists.Laid.{Front, laid-front, laid-from, laid-none}
 use Rattle.history.proofs.Invariant.Frame.{handles-moved, marks-same, Calm}
 use Rattle.history.proofs.Invariant.Resting.{resting-plan, resting, Finished, finished}
-use Rattle.history.proofs.Marking.Stages.{Finds, finds-of, kept-ahead}
+use Rattle.history.proofs.Invariant.Stages.{Finds, finds-of, kept-ahead, ahead-entry}
 use Rattle.history.proofs.Marking.Alike.{Alike, alike-state, register-alike, word-alike, shape-alike, handles-alike, layout-alike, zero-unswept, kept-alike, Onward}
 use Rattle.history.proofs.Marking.Start.{listed-none}
-use Rattle.history.proofs.Marking.Shade.{ahead-entry}
-
--- every register that points to a tuple points to a marked one
-abbrev pub RootsMarked : Box → Type 0
-RootsMarked b = (r : ℕ) → r < register-count → names-tuple (register r b) ≡ true → marked (handle-of (register r b)) b ≡ true
+use Rattle.history.proofs.View.Step.{RootsMarked}
 
 -- with next 0, in phase 1, no tuple waits for a scan
 pub none-listed : (b : Box) (g : Ghosts) → Inv b g → b .state .phase ≡ 1 → b .state .next ≡ 0 → Unlisted g

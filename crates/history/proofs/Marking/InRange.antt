@@ -13,8 +13,7 @@ use Rattle.history.proofs.Invariant.Statement.{Ghosts, Inv, rooms, Unsw
 use Rattle.history.proofs.Lists.Handles.{member-left, member-right}
 use Rattle.history.proofs.Lists.Chain.{chain-head}
 use Rattle.history.proofs.Lists.Laid.{laid-bounds, laid-rooms, unmarked-room}
-use Rattle.history.proofs.Marking.Stages.{unswept-of, kept-ahead, Scanning, scanning-of, adding-of}
-use Rattle.history.proofs.Marking.Shade.{ahead-entry}
+use Rattle.history.proofs.Invariant.Stages.{unswept-of, kept-ahead, Scanning, scanning-of, adding-of, ahead-entry}
 use Rattle.history.proofs.Marking.Scan.{scanned-ahead}
 
 -- ---- entries

@@ -19,9 +19,9 @@ use Rattle.history.proofs.Invariant.Words.{word-early}
 use Rattle.history.proofs.Lists.Handles.{member-left, member-right, perm-shift, perm-sym, perm-distinct, perm-member}
 use Rattle.history.proofs.Lists.Chain.{chain-head, chain-empty}
 use Rattle.history.proofs.Invariant.Frame.{Next}
-use Rattle.history.proofs.Marking.Stages.{Scanning, scanning-of, Adding, adding-of, kept-ahead}
+use Rattle.history.proofs.Invariant.Stages.{Scanning, scanning-of, Adding, adding-of, kept-ahead, ahead-entry}
 use Rattle.history.proofs.Marking.Alike.{Alike, alike-state, word-alike, Black, Relisted, with-scans, unswept-scans, Onward, onward-next, onward-alike, relists}
-use Rattle.history.proofs.Marking.Shade.{shade-alike, shade-steady, shade-mark, shade-scans, shade-inv, ahead-entry}
+use Rattle.history.proofs.Marking.Shade.{shade-alike, shade-steady, shade-mark, shade-scans, shade-inv}
 
 -- ---- the tuple under the scan
 

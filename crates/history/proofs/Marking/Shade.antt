@@ -14,11 +14,12 @@ use Rattle.memory.specs.Box.{Box, Word, handle-of, names-tuple, size-of, marked
 use Rattle.memory.specs.Place.{list-next, mark-live, shade}
 use Rattle.history.specs.Agreement.{Member, Distinct}
 use Rattle.history.proofs.Invariant.Statement.{Plan, Scans, Ghosts, Inv, listed, word, marked-rooms, Chain, Kept, unswept, Shape, Handles, Contents, Marks, Scan, Stage, at-rest, finding, scanning, adding, sweeping, reading, clearing, writing, zeroing}
-use Rattle.history.proofs.Lists.Handles.{member-left, member-right, perm-shift, perm-sym, perm-distinct, perm-member, Parts, parts, among-member, among-ahead}
+use Rattle.history.proofs.Lists.Handles.{member-left, member-right, perm-shift, perm-sym, perm-distinct, perm-member, Parts, parts}
 use Rattle.history.proofs.Lists.Chain.{chain-push, chain-set-other}
 use Rattle.history.proofs.Lists.Laid.{rooms-frame, marked-rooms-mark}
 use Rattle.history.proofs.Invariant.Frame.{Quiet}
 use Rattle.history.proofs.Marking.Alike.{Alike, address-alike, size-alike, deep-alike, word-alike, quiet-alike, Black, black-alike, with-scans, none-wait, unswept-scans, inv-alike}
+use Rattle.history.proofs.Invariant.Stages.{ahead-entry}
 
 -- ---- what shading does, by the three cases of its rule
 
@@ -265,10 +266,6 @@ shade-free h b p free i x = shaded-chain (shaded h b none-wait) (b .state .free)
 
 pub shade-quiet : (h : ℕ) (b : Box) (p : Plan) → b .state .phase ≤ 3 → Quiet b p (shade h b) p
 shade-quiet h b p l = quiet-alike b (shade h b) p (shade-alike h b) l (rw (shade-steady h b .phase-is) l)
-
--- a handle ahead is an entry
-pub ahead-entry : (b : Box) (p : Plan) (free : List ℕ) (h : ℕ) → Handles b p free → Member h (p .ahead) → (1 ≤ h) × (h < b .state .h)
-ahead-entry b p free h i x = i .entries h (among-member h (p .done) (p .mid) (p .ahead) free (among-ahead x))
 
 pub shade-marks : (h : ℕ) (b : Box) (p : Plan) (free : List ℕ) (s : Scans) → Shape b → Handles b p free → Contents b p → Member h (p .ahead) → b .state .phase ≤ 3 → Marks b p free s → Marks (shade h b) p free (shade-scans h b s)
 shade-marks h b p free s sp hd ct x l i = shaded-marks p free (shaded h b s) sp hd ct x (ahead-entry b p free h hd x .1) l i

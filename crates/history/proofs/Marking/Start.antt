@@ -18,7 +18,7 @@ use Rattle.history.proofs.Invariant.Statement.{Scans, Ghosts, Inv, list
 use Rattle.history.proofs.Lists.Chain.{chain-head}
 use Rattle.history.proofs.Lists.Laid.{marked-rooms-none}
 use Rattle.history.proofs.Invariant.Frame.{Next}
-use Rattle.history.proofs.Marking.Stages.{Rests, rests-of, Finds, finds-of, kept-ahead}
+use Rattle.history.proofs.Invariant.Stages.{Rests, rests-of, Finds, finds-of, kept-ahead}
 use Rattle.history.proofs.Marking.Alike.{alike-state, none-wait, unswept-scans, Onward, onward-next, onward-alike, relists}
 use Rattle.history.proofs.Marking.Shade.{shade-alike, shade-steady, shade-scans, shade-inv}
 

@@ -10,11 +10,11 @@ use native.Mathlib.Omega.{arith}
 use Rattle.memory.specs.Box.{Box, data-word, word-at, put, address}
 use Rattle.memory.specs.Collector.{to-phase}
 use Rattle.history.proofs.Invariant.Statement.{Ghosts, Inv, Move, Zero, word, writing}
-use Rattle.history.proofs.Invariant.Words.{word-moved, word-copied, word-unmoved}
+use Rattle.history.proofs.Invariant.Words.{word-moved, word-copied, word-unmoved, put-same, put-other}
 use Rattle.history.proofs.Invariant.Frame.{Next}
-use Rattle.history.proofs.Moving.Tuple.{AtClear, at-clear, Bounds, bounds, Turn, earlier, now, later, turn}
-use Rattle.history.proofs.Moving.Put.{put-same, put-other}
+use Rattle.history.proofs.Moving.Tuple.{Bounds, bounds, Turn, earlier, now, later, turn}
 use Rattle.history.proofs.Moving.Within.{Within, within}
+use Rattle.history.proofs.Invariant.Stages.{AtClear, at-clear}
 
 -- the box after it
 abbrev pub cleared : Box → Box
@@ -50,6 +50,6 @@ clears-zero b z f k e s = record { above-top = λ a u. go a (s .above-top a u) (
 
 pub clears : (b : Box) (g : Ghosts) → Inv b g → b .state .phase ≡ 6 → Next b g (to-phase 7 (put (b .state .src + b .state .index) (data-word 0) b))
 clears b g v p =
-    let s : AtClear b g = at-clear b g p (v .stage) in
+    let s : AtClear b g = at-clear b g (v .stage) p in
     let f : Bounds b g = bounds b g v (s .move) in
     within b (cleared b) g (b .state .src + b .state .index + 1) v (s .move) (clears-within b g (s .move) p (s .index-most)) (clears-zero b (g .zeroed) (omega (arith, v .shape .words-length)) (omega (arith, v .shape .flags-length)) (s .zeroed-is) (v .zero-words)) (λ m. writing refl m (s .index-most) refl)

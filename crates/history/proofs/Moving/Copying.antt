@@ -10,8 +10,9 @@ use Rattle.memory.specs.Collector.{copy-word}
 use Rattle.history.proofs.Invariant.Statement.{Ghosts, Inv, Move, Stage, Zero, word, clearing, writing}
 use Rattle.history.proofs.Invariant.Words.{word-moved, word-copied, word-unmoved, word-unread}
 use Rattle.history.proofs.Invariant.Frame.{Next}
-use Rattle.history.proofs.Moving.Tuple.{AtRead, at-read, Turn, earlier, now, later, turn}
+use Rattle.history.proofs.Moving.Tuple.{Turn, earlier, now, later, turn}
 use Rattle.history.proofs.Moving.Within.{Within, zeroed-to, within}
+use Rattle.history.proofs.Invariant.Stages.{AtRead, at-read}
 
 -- the box after the copy
 abbrev pub copied : Box → Box
@@ -53,12 +54,12 @@ high-stage b g l e m = clearing e m l refl
 
 pub copies-low : (b : Box) (g : Ghosts) → Inv b g → b .state .phase ≡ 5 → b .state .index ≤ b .state .size → b .state .src + b .state .index < b .state .live → Next b g (copy-word (b .state .src + b .state .index) b)
 copies-low b g v p l u =
-    let s : AtRead b g = at-read b g p (v .stage) in
+    let s : AtRead b g = at-read b g (v .stage) p in
     let e : copied b .state .phase ≡ 7 = low-phase b u in
     within b (copied b) g (b .state .src + b .state .index + 1) v (s .move) (copies-within b g (s .move) p (omega arith) (omega arith)) (copies-zero b (g .zeroed) (b .state .src + b .state .index + 1) (λ a x y. omega (arith, s .zeroed-is)) (v .zero-words)) (low-stage b g l e)
 
 pub copies-high : (b : Box) (g : Ghosts) → Inv b g → b .state .phase ≡ 5 → b .state .index ≤ b .state .size → b .state .live ≤ b .state .src + b .state .index → Next b g (copy-word (b .state .src + b .state .index) b)
 copies-high b g v p l u =
-    let s : AtRead b g = at-read b g p (v .stage) in
+    let s : AtRead b g = at-read b g (v .stage) p in
     let e : copied b .state .phase ≡ 6 = high-phase b u in
     within b (copied b) g (b .state .src + b .state .index) v (s .move) (copies-within b g (s .move) p (omega arith) (omega arith)) (copies-zero b (g .zeroed) (b .state .src + b .state .index) (λ a x y. omega (arith, s .zeroed-is)) (v .zero-words)) (high-stage b g l e)

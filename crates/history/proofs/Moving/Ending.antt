@@ -15,8 +15,9 @@ use Rattle.history.proofs.Lists.Chain.{chain-none}
 use Rattle.history.proofs.Lists.Laid.{laid-none, laid-to}
 use Rattle.history.proofs.Invariant.Frame.{handles-moved, Quiet, quiet-contents, quiet-calm, Calm, Next}
 use Rattle.history.proofs.Invariant.Resting.{resting-plan, resting, Finished, finished}
-use Rattle.history.proofs.Moving.Tuple.{AtRead, at-read, Bounds, bounds}
+use Rattle.history.proofs.Moving.Tuple.{Bounds, bounds}
 use Rattle.history.proofs.Moving.Settling.{Written, settled-perm, now-settled, was-kept, Settles, settled-now, settles-shape, settles-done, settles-words, settles-unmarked, size-same, mark-same, deep-same, root-same, word-same}
+use Rattle.history.proofs.Invariant.Stages.{AtRead, at-read}
 
 -- the box handed to the end of the cycle
 abbrev pub left-last : Box → Box
@@ -111,14 +112,14 @@ ends-box b c g v t w z e =
 pub ends-finished : (b : Box) (g : Ghosts) → Inv b g → b .state .phase ≡ 5 → b .state .size < b .state .index → b .state .src + b .state .size + 1 ≡ b .state .top
     → Finished (with-state (with-top (settle-move b .state .dest) (settle-move b .state)) (settle-move b)) (g .plan .done ++ (b .state .tuple ∷ [])) (g .free)
 ends-finished b g v p l e =
-    let s : AtRead b g = at-read b g p (v .stage) in
+    let s : AtRead b g = at-read b g (v .stage) p in
     ends-box b (left-last b) g v (record { move = s .move; in-phase = p; all-written = l }) (ends b) (omega arith) e
 
 -- and what is kept of the box at rest is as it was
 pub ends-calm : (b : Box) (g : Ghosts) → Inv b g → b .state .phase ≡ 5 → b .state .size < b .state .index → b .state .src + b .state .size + 1 ≡ b .state .top
     → Calm b (g .plan) (at-rest (with-state (with-top (settle-move b .state .dest) (settle-move b .state)) (settle-move b))) (resting-plan (g .plan .done ++ (b .state .tuple ∷ [])))
 ends-calm b g v p l e =
-    let m : Move b g = at-read b g p (v .stage) .move in
+    let m : Move b g = at-read b g (v .stage) p .move in
     quiet-calm b (g .plan) (at-rest (left-last b)) (resting-plan (settled-now b g)) (ends-quiet b (at-rest (left-last b)) g v (record { move = m; in-phase = p; all-written = l }) (rest-settles b (left-last b) (ends b .settles)) (rest-phase (left-last b)) (no-ahead b g v m e))
 
 pub ends-move : (b : Box) (g : Ghosts) → Inv b g → b .state .phase ≡ 5 → b .state .size < b .state .index → b .state .src + b .state .size + 1 ≡ b .state .top

@@ -12,8 +12,9 @@ use Rattle.history.proofs.Invariant.Statement.{Plan, Ghosts, Inv, Kept,
 use Rattle.history.proofs.Lists.Handles.{member-left}
 use Rattle.history.proofs.Lists.Laid.{Front, laid-front, laid-to, marked-rooms-frame}
 use Rattle.history.proofs.Invariant.Frame.{handles-moved, Quiet, quiet-contents, quiet-calm, Next}
-use Rattle.history.proofs.Moving.Tuple.{AtRead, at-read, Bounds, bounds}
+use Rattle.history.proofs.Moving.Tuple.{Bounds, bounds}
 use Rattle.history.proofs.Moving.Settling.{Written, settled-perm, now-settled, was-kept, Settles, settled-now, settles-shape, settles-done, settles-ahead, settles-words, settles-unmarked, size-same, mark-same, deep-same, root-same, word-same}
+use Rattle.history.proofs.Invariant.Stages.{AtRead, at-read}
 
 -- the box that the sweep goes on with
 abbrev pub left-on : Box → Box
@@ -133,5 +134,5 @@ leaves-inv b c g v t w z n =
 
 pub moves-on : (b : Box) (g : Ghosts) → Inv b g → b .state .phase ≡ 5 → b .state .size < b .state .index → b .state .src + b .state .size + 1 ≢ b .state .top → Next b g (go-on (after (settle-move b)) (settle-move b))
 moves-on b g v p l n =
-    let s : AtRead b g = at-read b g p (v .stage) in
+    let s : AtRead b g = at-read b g (v .stage) p in
     leaves-inv b (left-on b) g v (record { move = s .move; in-phase = p; all-written = l }) (leaves b) (omega arith) n

@@ -1,4 +1,4 @@
--- The tuple on its way, in phases 5, 6 and 7: what the invariant says of it in each phase, where it lies and how far it goes, and
+-- The tuple on its way, in phases 5, 6 and 7: where it lies and how far it goes, and
 -- that every other kept tuple lies below dest or behind the words that the moved tuple came from. From the layout, the sum in
 -- live, and that every handle stands once. Last, that no rule of these phases finds a number out of bounds. Assumes nothing.
 use Prim.Native.Nat.{ℕ, _+_, _≤_, _<_}
@@ -9,62 +9,10 @@ use native.Mathlib.Decide.{decLt, ℕ-discrete}
 use native.Mathlib.Omega.{arith}
 use Rattle.memory.specs.Box.{Box, address, size-of}
 use Rattle.history.specs.Agreement.{Member}
-use Rattle.history.proofs.Invariant.Statement.{Ghosts, Inv, Stage, Move, Kept, rooms, marked-rooms, at-rest, finding, scanning, adding, sweeping, reading, clearing, writing, zeroing, settled, moving, unswept, surviving}
+use Rattle.history.proofs.Invariant.Statement.{Ghosts, Inv, Move, Kept, rooms, marked-rooms, settled, moving, unswept, surviving}
 use Rattle.history.proofs.Lists.Handles.{Parts, parts, among-mid, among-member, member-equal}
 use Rattle.history.proofs.Lists.Laid.{laid-le, laid-bounds, rooms-one}
-
--- ---- what a phase says
-
--- phase 5
-pub record AtRead (b : Box) (g : Ghosts) : Type 0 where
-  pub move : Move b g
-  pub index-most : b .state .index ≤ b .state .size + 1
-  pub zeroed-is : g .zeroed ≡ b .state .src + b .state .index
-
-pub at-read : (b : Box) (g : Ghosts) → b .state .phase ≡ 5 → Stage b g → AtRead b g
-at-read b g p (at-rest q u n m) = absurd (omega arith)
-at-read b g p (finding q u n m) = absurd (omega arith)
-at-read b g p (scanning q u s n m) = absurd (omega arith)
-at-read b g p (adding q u s n m o) = absurd (omega arith)
-at-read b g p (sweeping q u n l s z hs t) = absurd (omega arith)
-at-read b g p (reading q m i z) = record { move = m; index-most = i; zeroed-is = z }
-at-read b g p (clearing q m i z) = absurd (omega arith)
-at-read b g p (writing q m i z) = absurd (omega arith)
-at-read b g p (zeroing q u n l s d i z) = absurd (omega arith)
-
--- phase 6
-pub record AtClear (b : Box) (g : Ghosts) : Type 0 where
-  pub move : Move b g
-  pub index-most : b .state .index ≤ b .state .size
-  pub zeroed-is : g .zeroed ≡ b .state .src + b .state .index
-
-pub at-clear : (b : Box) (g : Ghosts) → b .state .phase ≡ 6 → Stage b g → AtClear b g
-at-clear b g p (at-rest q u n m) = absurd (omega arith)
-at-clear b g p (finding q u n m) = absurd (omega arith)
-at-clear b g p (scanning q u s n m) = absurd (omega arith)
-at-clear b g p (adding q u s n m o) = absurd (omega arith)
-at-clear b g p (sweeping q u n l s z hs t) = absurd (omega arith)
-at-clear b g p (reading q m i z) = absurd (omega arith)
-at-clear b g p (clearing q m i z) = record { move = m; index-most = i; zeroed-is = z }
-at-clear b g p (writing q m i z) = absurd (omega arith)
-at-clear b g p (zeroing q u n l s d i z) = absurd (omega arith)
-
--- phase 7
-pub record AtWrite (b : Box) (g : Ghosts) : Type 0 where
-  pub move : Move b g
-  pub index-most : b .state .index ≤ b .state .size
-  pub zeroed-is : g .zeroed ≡ b .state .src + b .state .index + 1
-
-pub at-write : (b : Box) (g : Ghosts) → b .state .phase ≡ 7 → Stage b g → AtWrite b g
-at-write b g p (at-rest q u n m) = absurd (omega arith)
-at-write b g p (finding q u n m) = absurd (omega arith)
-at-write b g p (scanning q u s n m) = absurd (omega arith)
-at-write b g p (adding q u s n m o) = absurd (omega arith)
-at-write b g p (sweeping q u n l s z hs t) = absurd (omega arith)
-at-write b g p (reading q m i z) = absurd (omega arith)
-at-write b g p (clearing q m i z) = absurd (omega arith)
-at-write b g p (writing q m i z) = record { move = m; index-most = i; zeroed-is = z }
-at-write b g p (zeroing q u n l s d i z) = absurd (omega arith)
+use Rattle.history.proofs.Invariant.Stages.{at-read, AtClear, at-clear, AtWrite, at-write}
 
 -- ---- the tuple on its way
 
@@ -147,7 +95,7 @@ turn i n = go (decLt i n) (ℕ-discrete i n)
 -- ---- no rule of these phases finds a number out of bounds
 
 pub read-fits : (b : Box) (g : Ghosts) → Inv b g → b .state .phase ≡ 5 → b .state .index ≤ b .state .size → b .state .src + b .state .index < b .state .m
-read-fits b g i p l = let f : Bounds b g = bounds b g i (at-read b g p (i .stage) .move) in omega arith
+read-fits b g i p l = let f : Bounds b g = bounds b g i (at-read b g (i .stage) p .move) in omega arith
 
 pub record Finishes (b : Box) : Type 0 where
   pub least : 1 ≤ b .state .tuple
@@ -158,17 +106,17 @@ pub record Finishes (b : Box) : Type 0 where
 
 pub finish-fits : (b : Box) (g : Ghosts) → Inv b g → b .state .phase ≡ 5 → b .state .size < b .state .index → Finishes b
 finish-fits b g i p l =
-    let f : Bounds b g = bounds b g i (at-read b g p (i .stage) .move) in
+    let f : Bounds b g = bounds b g i (at-read b g (i .stage) p .move) in
     record { least = f .least; most = f .most; dest-fits = omega arith; after-fits = omega arith; after-inside = λ n. omega arith }
 
 pub clear-fits : (b : Box) (g : Ghosts) → Inv b g → b .state .phase ≡ 6 → b .state .src + b .state .index < b .state .m
 clear-fits b g i p =
-    let s : AtClear b g = at-clear b g p (i .stage) in
+    let s : AtClear b g = at-clear b g (i .stage) p in
     let f : Bounds b g = bounds b g i (s .move) in
     omega arith
 
 pub write-fits : (b : Box) (g : Ghosts) → Inv b g → b .state .phase ≡ 7 → b .state .dest + b .state .index < b .state .m
 write-fits b g i p =
-    let s : AtWrite b g = at-write b g p (i .stage) in
+    let s : AtWrite b g = at-write b g (i .stage) p in
     let f : Bounds b g = bounds b g i (s .move) in
     omega arith

@@ -9,11 +9,11 @@ use native.Mathlib.Omega.{arith}
 use Rattle.memory.specs.Box.{Box, word-at, copy-register, address}
 use Rattle.memory.specs.Collector.{write-copy}
 use Rattle.history.proofs.Invariant.Statement.{Ghosts, Inv, Move, Stage, Zero, word, reading}
-use Rattle.history.proofs.Invariant.Words.{word-moved, word-copied, word-unmoved, word-unread}
+use Rattle.history.proofs.Invariant.Words.{word-moved, word-copied, word-unmoved, word-unread, put-same, put-other}
 use Rattle.history.proofs.Invariant.Frame.{Next}
-use Rattle.history.proofs.Moving.Tuple.{AtWrite, at-write, Bounds, bounds, Turn, earlier, now, later, turn}
-use Rattle.history.proofs.Moving.Put.{put-same, put-other}
+use Rattle.history.proofs.Moving.Tuple.{Bounds, bounds, Turn, earlier, now, later, turn}
 use Rattle.history.proofs.Moving.Within.{Within, zeroed-to, within}
+use Rattle.history.proofs.Invariant.Stages.{AtWrite, at-write}
 
 elsewhere : (b : Box) (a : ℕ) → a ≢ b .state .dest + b .state .index → word-at a (write-copy b) ≡ word-at a b
 unfolding write-copy
@@ -46,7 +46,7 @@ writes-stage b g z l e m = reading refl m (omega arith) (omega arith)
 
 pub writes : (b : Box) (g : Ghosts) → Inv b g → b .state .phase ≡ 7 → Next b g (write-copy b)
 writes b g v p =
-    let s : AtWrite b g = at-write b g p (v .stage) in
+    let s : AtWrite b g = at-write b g (v .stage) p in
     let f : Bounds b g = bounds b g v (s .move) in
     let w : word-at (b .state .dest + b .state .index) (write-copy b) ≡ copy-register b = here b (omega (arith, v .shape .words-length)) (omega (arith, v .shape .flags-length)) in
     within b (write-copy b) g (g .zeroed) v (s .move) (writes-within b g (s .move) p (s .index-most) w) (writes-zero b (g .zeroed) (omega arith) (omega arith) (v .zero-words)) (writes-stage b g (g .zeroed) (s .index-most) (s .zeroed-is))

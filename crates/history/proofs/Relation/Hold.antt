@@ -11,58 +11,17 @@ use Rattle.memory.specs.declared.request.Request.{Request}
 use Rattle.memory.specs.declared.request.Request.the-variants.{Setd, Nil, Move, Advance, Getm, Load, Store, Size, Tag, Same}
 use Rattle.memory.specs.Limits.{register-count}
 use Rattle.memory.specs.Box.{Box}
-use Rattle.memory.specs.Place.{Place, copy-place, at, being-moved, place, read}
 use Rattle.memory.specs.Request.{hold}
 use Rattle.memory.specs.Collector.{unheld}
 use Rattle.history.specs.Machine.{HWord, datum, pointer-to, Asked, History, fresh, register-of, size-at, word-of, made, with-hold, put-in, make, advance-by, load-from, store-to, size-to, tag-to, do-request, hold-request, grant}
-use Rattle.history.proofs.Invariant.Statement.{Plan, word, Kept, settled, moving, unswept, surviving, Contents}
-use Rattle.history.proofs.Invariant.Frame.{Calm}
+use Rattle.history.proofs.Invariant.Statement.{Plan, Kept, Contents}
+use Rattle.history.proofs.Invariant.Frame.{quiet-calm}
 use Rattle.history.proofs.Relation.Statement.{Holds, Related}
 use Rattle.history.proofs.Relation.Still.{related-calm}
-use Rattle.history.proofs.Relation.NewTuple.{Made, renumbered, related-made}
+use Rattle.history.proofs.Relation.NewTuple.{renumbered, related-made}
 use Rattle.history.proofs.Relation.Store.{stored-in}
-
--- ---- the box's hold
-
-read-hold : (r n t : ℕ) (q : Place) (b : Box) → read q (hold r n t b) ≡ read q b
-unfolding read hold
-read-hold r n t copy-place b = refl
-read-hold r n t (at a) b = refl
-
-word-hold : (r n t h i : ℕ) (b : Box) → word h i (hold r n t b) ≡ word h i b
-unfolding word place being-moved hold
-word-hold r n t h i b = read-hold r n t (place h i b) b
-
-kept-hold-to : (r n t : ℕ) (b : Box) (p : Plan) (h : ℕ) → Kept (hold r n t b) p h → Kept b p h
-unfolding hold
-kept-hold-to r n t b p h (settled x) = settled x
-kept-hold-to r n t b p h (moving x) = moving x
-kept-hold-to r n t b p h (unswept x l) = unswept x l
-kept-hold-to r n t b p h (surviving x m) = surviving x m
-
-pub calm-hold : (r n t : ℕ) (b : Box) (p : Plan) → Calm b p (hold r n t b) p
-unfolding hold
-calm-hold r n t b p = record { kept-to = kept-hold-to r n t b p; roots-same = λ s. refl; sizes-same = λ h k. refl; words-same = λ h k i l. word-hold r n t h i b }
-
-read-unheld : (q : Place) (b : Box) → read q (unheld b) ≡ read q b
-unfolding read unheld
-read-unheld copy-place b = refl
-read-unheld (at a) b = refl
-
-word-unheld : (h i : ℕ) (b : Box) → word h i (unheld b) ≡ word h i b
-unfolding word place being-moved unheld
-word-unheld h i b = read-unheld (place h i b) b
-
-kept-unheld-to : (b : Box) (p : Plan) (h : ℕ) → Kept (unheld b) p h → Kept b p h
-unfolding unheld
-kept-unheld-to b p h (settled x) = settled x
-kept-unheld-to b p h (moving x) = moving x
-kept-unheld-to b p h (unswept x l) = unswept x l
-kept-unheld-to b p h (surviving x m) = surviving x m
-
-pub calm-unheld : (b : Box) (p : Plan) → Calm b p (unheld b) p
-unfolding unheld
-calm-unheld b p = record { kept-to = kept-unheld-to b p; roots-same = λ s. refl; sizes-same = λ h k. refl; words-same = λ h k i l. word-unheld h i b }
+use Rattle.history.proofs.Asking.NewTuple.{Made}
+use Rattle.history.proofs.Asking.Registers.{hold-quiet, unheld-quiet}
 
 -- ---- both sides
 
@@ -87,24 +46,24 @@ pub related-hold : (r n t : ℕ) (b : Box) (p : Plan) (m : History) (given : Lis
 unfolding hold hold-request
 related-hold r n t b p m given number s =
     related-with-hold (some (record { register = r; size = n; tag = t })) (hold r n t b) p m given number
-    (related-calm b (hold r n t b) p p m given number (calm-hold r n t b p) refl s)
+    (related-calm b (hold r n t b) p p m given number (quiet-calm b p (hold r n t b) p (hold-quiet r n t b p)) refl s)
 
 -- the hold dropped from the box
 pub related-unheld : (b : Box) (p : Plan) (m : History) (given : List ℕ) (number : ℕ → ℕ) → Related b p m given number → Related (unheld b) p m given number
 unfolding unheld
-related-unheld b p m given number s = related-calm b (unheld b) p p m given number (calm-unheld b p) refl s
+related-unheld b p m given number s = related-calm b (unheld b) p p m given number (quiet-calm b p (unheld b) p (unheld-quiet b p)) refl s
 
 -- and from both
 pub related-dropped : (b : Box) (p : Plan) (m : History) (given : List ℕ) (number : ℕ → ℕ) → Related b p m given number → Related (unheld b) p (with-hold none m) given number
 related-dropped b p m given number s = related-with-hold none (unheld b) p m given number (related-unheld b p m given number s)
 
 -- the hold granted: c has the new tuple
-pub related-granted : (b : Box) (p : Plan) (c : Box) (q : Plan) (h : ℕ) (o : Asked) (m : History) (given : List ℕ) (number : ℕ → ℕ) → Made b p c q (o .register) h (o .size) (o .tag) → Contents b p → Related b p m given number → length (m .registers) ≡ register-count → o .register < register-count
-    → Related (unheld c) q (grant (some o) m) (given ++ h ∷ []) (renumbered number h (suc (made m)))
+pub related-granted : (b : Box) (p : Plan) (c : Box) (q : Plan) (o : Asked) (m : History) (given : List ℕ) (number : ℕ → ℕ) → Made b p c q (o .register) (o .size) (o .tag) → Contents b p → Related b p m given number → length (m .registers) ≡ register-count → o .register < register-count
+    → Related (unheld c) q (grant (some o) m) (given ++ b .state .free ∷ []) (renumbered number (b .state .free) (suc (made m)))
 unfolding grant
-related-granted b p c q h o m given number a i s eight l =
-    related-dropped c q (make (o .register) (o .size) (o .tag) m) (given ++ h ∷ []) (renumbered number h (suc (made m)))
-    (related-made b p c q (o .register) h (o .size) (o .tag) m given number a i s eight l)
+related-granted b p c q o m given number a i s eight l =
+    related-dropped c q (make (o .register) (o .size) (o .tag) m) (given ++ b .state .free ∷ []) (renumbered number (b .state .free) (suc (made m)))
+    (related-made b p c q (o .register) (o .size) (o .tag) m given number a i s eight l)
 
 -- ---- the history machine's registers
 

@@ -15,32 +15,15 @@ use lib.Dec.{eqb}
 use lib.ListN.{length, getD, replicate, length-append, length-replicate, getD-replicate, List·getD-append}
 use lib.Seq.{getD-append-seam, getD-set-same, getD-set-other}
 use Rattle.memory.specs.Limits.{register-count}
-use Rattle.memory.specs.Box.{Box, Word, data-word, pointer, handle-of, tag-of, names-tuple, register, size-of}
+use Rattle.memory.specs.Box.{Box, Word, pointer, handle-of, tag-of, names-tuple, register, size-of}
 use Rattle.history.specs.Machine.{HWord, datum, pointer-to, HTuple, History, nil-tuple, register-of, tuple-of, word-of, made, make}
 use Rattle.history.specs.Agreement.{handle-at}
 use Rattle.history.proofs.Invariant.Statement.{Plan, word, Kept, Contents}
 use Rattle.history.proofs.Relation.Statement.{Match, Holds, Related}
-use Rattle.history.proofs.Relation.Registers.{pointer-handle, pointer-offset}
+use Rattle.history.proofs.Relation.Registers.{pointer-offset}
 use Rattle.history.proofs.View.Tests.{eq?, le?}
-
--- box c, with plan q, is box b, with plan p, and a new tuple under handle h, of n words and a tag; register r points to it
-pub record Made (b : Box) (p : Plan) (c : Box) (q : Plan) (r h n tag : ℕ) : Type 0 where
-  pub handle-not-nil : h ≢ 0
-  pub handle-below : h < b .state .h
-  pub h-same : c .state .h ≡ b .state .h
-  pub register-made : register r c ≡ pointer h 0
-  pub roots-same : (s : ℕ) → s ≢ r → register s c ≡ register s b
-  pub handle-new : ¬ Kept b p h
-  pub kept-to : (x : ℕ) → Kept c q x → Kept b p x ⊎ (x ≡ h)
-  pub sizes-same : (x : ℕ) → Kept b p x → size-of x c ≡ size-of x b
-  pub words-same : (x : ℕ) → Kept b p x → (k : ℕ) → k ≤ size-of x b → word x k c ≡ word x k b
-  pub size-made : size-of h c ≡ n
-  pub tag-made : tag-of (word h 0 c) ≡ tag
-  pub words-made : (k : ℕ) → k < n → word h (k + 1) c ≡ data-word 0
-
--- the handle that the register names after it
-pub made-handle : (b : Box) (p : Plan) (c : Box) (q : Plan) (r h n tag : ℕ) → Made b p c q r h n tag → handle-of (register r c) ≡ h
-made-handle b p c q r h n tag a = ap handle-of (a .register-made) ∙ pointer-handle h 0 (omega arith)
+use Rattle.history.proofs.Invariant.Words.{pointer-handle}
+use Rattle.history.proofs.Asking.NewTuple.{Made}
 
 -- ---- the numbers of handles with that of the new tuple
 
@@ -100,7 +83,11 @@ register-other-of r n tag m s e = getD-set-other (m .registers) r s (pointer-to 
 le-suc-of-le : (j n : ℕ) → j ≤ n → j ≤ suc n
 le-suc-of-le j n u = omega arith
 
-module _ (b : Box) (p : Plan) (c : Box) (q : Plan) (r h n tag : ℕ) (m : History) (given : List ℕ) (number : ℕ → ℕ) (a : Made b p c q r h n tag) (i : Contents b p) (s : Related b p m given number) (eight : length (m .registers) ≡ register-count) (l : r < register-count) where
+module _ (b : Box) (p : Plan) (c : Box) (q : Plan) (r n tag : ℕ) (m : History) (given : List ℕ) (number : ℕ → ℕ) (a : Made b p c q r n tag) (i : Contents b p) (s : Related b p m given number) (eight : length (m .registers) ≡ register-count) (l : r < register-count) where
+  -- the handle of the new tuple
+  abbrev h : ℕ
+  h = b .state .free
+
   abbrev numbers : ℕ → ℕ
   numbers = renumbered number h (suc (made m))
 
@@ -112,7 +99,7 @@ module _ (b : Box) (p : Plan) (c : Box) (q : Plan) (r h n tag : ℕ) (m : Histor
 
   -- a word that names kept tuples alone
   not-new : (w : Word) → (names-tuple w ≡ true → Kept b p (handle-of w)) → w .flag ≡ true → handle-of w ≢ h
-  not-new w k f e = a .handle-new (subst (λ (x : ℕ). Kept b p x) e (k (simp (f, ne-eqb (handle-of w) 0 (λ z. a .handle-not-nil (sym e ∙ z))))))
+  not-new w k f e = a .was-free (subst (λ (x : ℕ). Kept b p x) e (k (simp (f, ne-eqb (handle-of w) 0 (λ z. a .handle-not-nil (sym e ∙ z))))))
 
   match-old : (w : Word) (v : HWord) → (names-tuple w ≡ true → Kept b p (handle-of w)) → Match number w v → Match numbers w v
   match-old w v k e = match-renumbered number h (suc (made m)) w v (not-new w k) e
@@ -133,7 +120,7 @@ module _ (b : Box) (p : Plan) (c : Box) (q : Plan) (r h n tag : ℕ) (m : Histor
 
   root-old : (t : ℕ) → t < register-count → t ≢ r → Match numbers (register t c) (register-of t machine)
   root-old t u e =
-      subst (λ (x : Word). Match numbers x (register-of t machine)) (sym (a .roots-same t e))
+      subst (λ (x : Word). Match numbers x (register-of t machine)) (sym (a .registers-same t e))
       (subst (λ (v : HWord). Match numbers (register t b) v) (sym (register-other-of r n tag m t e))
       (match-old (register t b) (register-of t m) (i .roots-kept t u) (s .roots-match t u)))
 
@@ -156,7 +143,7 @@ module _ (b : Box) (p : Plan) (c : Box) (q : Plan) (r h n tag : ℕ) (m : Histor
       y = s .kept-hold x k
 
       other : x ≢ h
-      other e = a .handle-new (subst (λ (z : ℕ). Kept b p z) e k)
+      other e = a .was-free (subst (λ (z : ℕ). Kept b p z) e k)
 
       same : numbers x ≡ number x
       same = renumbered-other number h (suc (made m)) x other
@@ -178,8 +165,8 @@ module _ (b : Box) (p : Plan) (c : Box) (q : Plan) (r h n tag : ℕ) (m : Histor
       record {
         number-made = (rw same (suc-le-suc zero-le), rw (same, made-make r n tag m) (le-refl (suc (made m))));
         handle-given = ap (λ (z : ℕ). handle-at z handles) same ∙ given-new;
-        size-same = a .size-made ∙ sym (length-replicate n (datum 0)) ∙ ap (λ (t : HTuple). length (t .words)) (sym tuple-is);
-        tag-same = a .tag-made ∙ ap (λ (t : HTuple). t .tag) (sym tuple-is);
+        size-same = a .made-size ∙ sym (length-replicate n (datum 0)) ∙ ap (λ (t : HTuple). length (t .words)) (sym tuple-is);
+        tag-same = a .made-tag ∙ ap (λ (t : HTuple). t .tag) (sym tuple-is);
         words-match = words;
       }
     where
@@ -191,10 +178,10 @@ module _ (b : Box) (p : Plan) (c : Box) (q : Plan) (r h n tag : ℕ) (m : Histor
 
       words : (j : ℕ) → j < size-of h c → Match numbers (word h (j + 1) c) (word-of (numbers h) j machine)
       words j u =
-          let v : j < n = subst (λ (z : ℕ). j < z) (a .size-made) u in
+          let v : j < n = subst (λ (z : ℕ). j < z) (a .made-size) u in
           subst (λ (t : HTuple). Match numbers (word h (j + 1) c) (getD (t .words) j (datum 0))) (sym tuple-is)
           (subst (λ (z : HWord). Match numbers (word h (j + 1) c) z) (sym (getD-replicate n j (datum 0) (datum 0) v))
-          (subst (λ (z : Word). Match numbers z (datum 0)) (sym (a .words-made j v)) (refl, refl)))
+          (subst (λ (z : Word). Match numbers z (datum 0)) (sym (a .made-words j v)) (refl, refl)))
 
   holds-any : (x : ℕ) → Kept b p x ⊎ (x ≡ h) → Holds c machine handles numbers x
   holds-any x (inl k) = holds-old x k
@@ -230,7 +217,7 @@ module _ (b : Box) (p : Plan) (c : Box) (q : Plan) (r h n tag : ℕ) (m : Histor
       go (inr e) = subst (λ (z : ℕ). j ≤ z) (sym (renumbered-other number h (suc (made m)) (handle-at j given) e)) (s .number-latest j o u)
   latest-number j o (latest e) = rw (e, given-new, renumbered-same number h (suc (made m)) h refl) (le-refl (suc (made m)))
 
-  pub related-made : Related c q (make r n tag m) (given ++ h ∷ []) (renumbered number h (suc (made m)))
+  pub related-made : Related c q (make r n tag m) (given ++ b .state .free ∷ []) (renumbered number (b .state .free) (suc (made m)))
   related-made =
       record {
         roots-match = λ t u. root-any t u (eq? t r);

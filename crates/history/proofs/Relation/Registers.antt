@@ -2,7 +2,7 @@
 -- that the history machine puts there. A word of the history machine that matches a pointer is a pointer; what it names is the
 -- number of a kept tuple, and so has its size, tag and words. Assumes nothing.
 use Prim.Native.Nat.{ℕ, _+_, _*_, _/_, _%_, _<_}
-use mathlib.Core.Bool.{Bool, true, not, cond, _&&_, and-true, and-false}
+use mathlib.Core.Bool.{Bool, true, cond, _&&_, and-true, and-false}
 use mathlib.Core.List.{List}
 use mathlib.Core.Logic.{_≢_, _⊎_, inl, inr}
 use mathlib.Core.Path.{_≡_, refl, sym, _∙_, ap, ap₂, subst}
@@ -13,7 +13,7 @@ use lib.Dec.{eqb}
 use lib.ListN.{length}
 use Rattle.memory.specs.declared.request.Request.the-variants.{Setd, Nil, Move, Advance, Load, Size, Tag, Same}
 use Rattle.memory.specs.Limits.{half-word, register-count}
-use Rattle.memory.specs.Box.{Box, Word, data-word, pointer, handle-of, offset-of, tag-of, is-nil, names-tuple, register, put-register, size-of}
+use Rattle.memory.specs.Box.{Box, Word, data-word, pointer, handle-of, offset-of, tag-of, names-tuple, register, put-register, size-of}
 use Rattle.memory.specs.Place.{place, read}
 use Rattle.memory.specs.Request.{same-word}
 use Rattle.history.specs.Machine.{HWord, datum, pointer-to, History, register-of, tuple-of, size-at, word-of, put-in, advance-by, load-from, size-to, tag-to, same-hword, do-request}
@@ -21,22 +21,15 @@ use Rattle.history.specs.Agreement.{handle-at, Matches, Agree}
 use Rattle.history.proofs.Invariant.Statement.{Ghosts, Inv, Kept, word}
 use Rattle.history.proofs.Relation.Statement.{Match, Holds, Related, agree}
 use Rattle.history.proofs.Relation.Still.{related-put}
-use Rattle.history.proofs.View.Tests.{true-is-not-false, and-left, eq?}
+use Rattle.history.proofs.View.Tests.{true-is-not-false, eq?}
 use Rattle.history.proofs.View.Request.{named, number as word-number, place-of, There}
+use Rattle.history.proofs.Invariant.Words.{pointer-handle, names-flag}
 
 -- ---- words
-
--- a pointer other than nil is a pointer
-pub names-flag : (w : Word) → names-tuple w ≡ true → w .flag ≡ true
-names-flag w n = and-left (w .flag) (not (is-nil w)) n
 
 -- data matches no pointer
 pub pointer-not-datum : (number : ℕ → ℕ) (w : Word) (v : ℕ) → w .flag ≡ true → ¬ Match number w (datum v)
 pointer-not-datum number w v f e = true-is-not-false (sym f ∙ e .0)
-
--- handle and offset of a pointer
-pub pointer-handle : (h o : ℕ) → o < half-word → handle-of (pointer h o) ≡ h
-pointer-handle h o l = omega arith
 
 pub pointer-offset : (h o : ℕ) → o < half-word → offset-of (pointer h o) ≡ o
 pointer-offset h o l = omega arith

@@ -17,18 +17,11 @@ use Rattle.history.specs.Machine.{HWord, datum, pointer-to, HTuple, Hist
 use Rattle.history.specs.Agreement.{handle-at}
 use Rattle.history.proofs.Invariant.Statement.{Plan, Ghosts, Inv, word, Kept}
 use Rattle.history.proofs.Relation.Statement.{Match, Holds, Related}
-use Rattle.history.proofs.Relation.Registers.{names-flag, pointer-not-datum, inside-both}
+use Rattle.history.proofs.Relation.Registers.{pointer-not-datum, inside-both}
 use Rattle.history.proofs.View.Tests.{eq?}
 use Rattle.history.proofs.View.Request.{named, number as word-number, There}
-
--- box c is box b with w at word k of tuple h
-pub record Stored (b : Box) (p : Plan) (c : Box) (h k : ℕ) (w : Word) : Type 0 where
-  pub kept-to : (x : ℕ) → Kept c p x → Kept b p x
-  pub roots-same : (r : ℕ) → register r c ≡ register r b
-  pub h-same : c .state .h ≡ b .state .h
-  pub sizes-same : (x : ℕ) → Kept b p x → size-of x c ≡ size-of x b
-  pub word-stored : word h (k + 1) c ≡ w
-  pub words-same : (x : ℕ) → Kept b p x → (i : ℕ) → i ≤ size-of x b → (x ≢ h) ⊎ (i ≢ k + 1) → word x i c ≡ word x i b
+use Rattle.history.proofs.Invariant.Words.{names-flag}
+use Rattle.history.proofs.Asking.Write.{Stored}
 
 -- ---- the history machine with a word changed
 
@@ -78,7 +71,7 @@ tuple-not-stored (suc i) (suc j) k v m n = there-set-word i j k v (m .tuples) (�
 
 -- ---- the relation
 
-module _ (b : Box) (p : Plan) (c : Box) (h k : ℕ) (w : Word) (v : HWord) (m : History) (given : List ℕ) (number : ℕ → ℕ) (a : Stored b p c h k w) (s : Related b p m given number) (kept : Kept b p h) (inside : k < size-of h b) (e : Match number w v) where
+module _ (b : Box) (p : Plan) (c : Box) (h k : ℕ) (w : Word) (v : HWord) (m : History) (given : List ℕ) (number : ℕ → ℕ) (a : Stored b p c p h k w) (s : Related b p m given number) (kept : Kept b p h) (inside : k < size-of h b) (e : Match number w v) where
   abbrev machine : History
   machine = stored-in (number h) k v m
 
@@ -168,7 +161,7 @@ module _ (b : Box) (p : Plan) (c : Box) (h k : ℕ) (w : Word) (v : HWord) (m : 
 -- ---- the request
 
 module _ (b : Box) (g : Ghosts) (m : History) (given : List ℕ) (number : ℕ → ℕ) (i : Inv b g) (s : Related b (g .plan) m given number) (eight : length (m .registers) ≡ register-count) where
-  stores : (c : Box) (r t n : ℕ) → r < register-count → t < register-count → There t n b → Stored b (g .plan) c (named t b) (word-number t n b) (register r b)
+  stores : (c : Box) (r t n : ℕ) → r < register-count → t < register-count → There t n b → Stored b (g .plan) c (g .plan) (named t b) (word-number t n b) (register r b)
       → (v : HWord) → Match number (register t b) v → Related c (g .plan) (store-to (register-of r m) v n m) given number
   unfolding store-to
   stores c r t n l k x a (datum v) e = absurd (pointer-not-datum number (register t b) v (names-flag (register t b) (x .is-pointer)) e)
@@ -178,7 +171,7 @@ module _ (b : Box) (g : Ghosts) (m : History) (given : List ℕ) (number : ℕ �
       (subst (λ (y : ℕ). Related c (g .plan) (stored-in (number (named t b)) (y + n) (register-of r m) m) given number) (e .1)
       (related-stored b (g .plan) c (named t b) (word-number t n b) (register r b) (register-of r m) m given number a s (i .contents .roots-kept t k (x .is-pointer)) (x .inside) (s .roots-match r l))))
 
-  pub related-store : (c : Box) (r t n : ℕ) → r < register-count → t < register-count → There t n b → Stored b (g .plan) c (named t b) (word-number t n b) (register r b)
+  pub related-store : (c : Box) (r t n : ℕ) → r < register-count → t < register-count → There t n b → Stored b (g .plan) c (g .plan) (named t b) (word-number t n b) (register r b)
       → Related c (g .plan) (do-request (Store r t n) m) given number
   unfolding do-request
   related-store c r t n l k x a = stores c r t n l k x a (register-of t m) (s .roots-match t k)

@@ -12,51 +12,21 @@ use Rattle.memory.specs.Box.{Box, Word, handle-of, names-tuple, size-of, word-a
 use Rattle.memory.specs.Place.{list-next, mark-live, shade}
 use Rattle.history.specs.Machine.{History}
 use Rattle.history.specs.Agreement.{Member}
-use Rattle.history.proofs.Invariant.Statement.{Plan, Ghosts, Inv, listed, word, Kept, settled, moving, unswept, surviving, Stage, Unswept, Scan}
+use Rattle.history.proofs.Invariant.Statement.{Plan, Ghosts, Inv, listed, word, Kept, settled, moving, unswept, surviving, Scan}
 use Rattle.history.proofs.Invariant.Frame.{Calm}
 use Rattle.history.proofs.Invariant.Words.{word-early}
 use Rattle.history.proofs.Relation.Statement.{Related}
 use Rattle.history.proofs.Spared.Tracked.{Spared, Tracked, tracked-on, tracked-start, word-spared}
-
--- ---- what the stage says of the plan
-
--- in phases 0 to 3 every kept tuple lies ahead
-pub unswept-stage : (b : Box) (g : Ghosts) → Stage b g → b .state .phase ≤ 3 → Unswept g
-unswept-stage b g (Stage.at-rest p u n m) l = u
-unswept-stage b g (Stage.finding p u c y) l = u
-unswept-stage b g (Stage.scanning p u s x y) l = u
-unswept-stage b g (Stage.adding p u s x y z) l = u
-unswept-stage b g (Stage.sweeping p u a c d f hs q) l = absurd (omega arith)
-unswept-stage b g (Stage.reading p x a c) l = absurd (omega arith)
-unswept-stage b g (Stage.clearing p x a c) l = absurd (omega arith)
-unswept-stage b g (Stage.writing p x a c) l = absurd (omega arith)
-unswept-stage b g (Stage.zeroing p x a c d f h i) l = absurd (omega arith)
-
-pub kept-ahead : (b : Box) (g : Ghosts) → Unswept g → (h : ℕ) → Kept b (g .plan) h → Member h (g .plan .ahead)
-kept-ahead b g u h (settled x) = absurd (subst (λ (l : List ℕ). Member h l) (u .no-done) x)
-kept-ahead b g u h (moving x) = absurd (subst (λ (l : List ℕ). Member h l) (u .no-mid) x)
-kept-ahead b g u h (unswept x l) = x
-kept-ahead b g u h (surviving x t) = x
+use Rattle.history.proofs.Invariant.Stages.{unswept-of, kept-ahead, rests-of, Scanning, scanning-of}
 
 module _ (b : Box) (g : Ghosts) (v : Inv b g) (c : Box) (q : Plan) (s : Calm b (g .plan) c q) where
   -- a tuple ahead after a transition of the marking was ahead before it
   was-ahead : b .state .phase ≤ 3 → c .state .phase ≤ 3 → (h : ℕ) → Member h (q .ahead) → Member h (g .plan .ahead)
-  was-ahead l u h x = kept-ahead b g (unswept-stage b g (v .stage) l) h (s .kept-to h (unswept x u))
+  was-ahead l u h x = kept-ahead b g h (unswept-of b g (v .stage) l) (s .kept-to h (unswept x u))
 
   -- the Rest step
   pub tracked-rests : (m : History) (number : ℕ → ℕ) → b .state .phase ≡ 0 → c .state .phase ≡ 1 → ((h : ℕ) → marked h c ≡ marked h b) → Tracked c q m number m
-  tracked-rests m number e f k = tracked-start c q m number f (λ h x. k h ∙ clean (v .stage) h (was-ahead (omega arith) (omega arith) h x))
-    where
-      clean : Stage b g → (h : ℕ) → Member h (g .plan .ahead) → marked h b ≡ false
-      clean (Stage.at-rest p u n m) = m
-      clean (Stage.finding p u c y) = absurd (omega arith)
-      clean (Stage.scanning p u s x y) = absurd (omega arith)
-      clean (Stage.adding p u s x y z) = absurd (omega arith)
-      clean (Stage.sweeping p u a c d f hs q) = absurd (omega arith)
-      clean (Stage.reading p x a c) = absurd (omega arith)
-      clean (Stage.clearing p x a c) = absurd (omega arith)
-      clean (Stage.writing p x a c) = absurd (omega arith)
-      clean (Stage.zeroing p x a c d f h i) = absurd (omega arith)
+  tracked-rests m number e f k = tracked-start c q m number f (λ h x. k h ∙ rests-of b g (v .stage) e .unmarked h (was-ahead (omega arith) (omega arith) h x))
 
   module _ (m : History) (number : ℕ → ℕ) (started : History) (t : Tracked b (g .plan) m number started) where
     -- a transition of the marking: what it marks newly is spared, and so is what it is to add
@@ -76,7 +46,7 @@ module _ (b : Box) (g : Ghosts) (v : Inv b g) (c : Box) (q : Plan) (s : Calm b (
         keep h (settled x) = absurd (subst (λ (y : List ℕ). Member h y) d x)
         keep h (moving x) = absurd (subst (λ (y : List ℕ). Member h y) f x)
         keep h (unswept x w) = absurd (omega arith)
-        keep h (surviving x w) = t .marked-spared l h (kept-ahead b g (unswept-stage b g (v .stage) l) h (s .kept-to h (surviving x w))) (sym (k h) ∙ w)
+        keep h (surviving x w) = t .marked-spared l h (kept-ahead b g h (unswept-of b g (v .stage) l) (s .kept-to h (surviving x w))) (sym (k h) ∙ w)
 
     -- the sweep goes on
     pub tracked-swept : 4 ≤ b .state .phase → 4 ≤ c .state .phase → Tracked c q m number started
@@ -112,7 +82,7 @@ shade-marked-only h b P y x e = go (ℕ-discrete x h)
 pub scanned-spared : (b : Box) (g : Ghosts) (m : History) (given : List ℕ) (number : ℕ → ℕ) (started : History) → Inv b g → Related b (g .plan) m given number → Tracked b (g .plan) m number started
     → b .state .phase ≡ 2 → b .state .index ≤ b .state .size → names-tuple (word-at (b .state .src + b .state .index) b) ≡ true
     → Spared started (number (handle-of (word-at (b .state .src + b .state .index) b)))
-scanned-spared b g m given number started v r t e l n = go (v .stage)
+scanned-spared b g m given number started v r t e l n = let s : Scanning b g = scanning-of b g (v .stage) e in found (s .scanned) (s .scan-is)
   where
     found : (s : ℕ) → Scan b g s → Spared started (number (handle-of (word-at (b .state .src + b .state .index) b)))
     found s c =
@@ -125,14 +95,3 @@ scanned-spared b g m given number started v r t e l n = go (v .stage)
         let i : b .state .index - 1 + 1 ≡ b .state .index = omega arith in
         let w : word s (b .state .index - 1 + 1) b ≡ word-at (b .state .src + b .state .index) b = word-early s (b .state .index - 1 + 1) b (omega arith) ∙ ap₂ (λ (y u : ℕ). word-at (y + u) b) (c .src-is) i in
         subst (λ (y : Word). Spared started (number (handle-of y))) w (word-spared b (g .plan) m given number r (v .contents) started t s k p (b .state .index - 1) (omega arith) (subst (λ (y : Word). names-tuple y ≡ true) (sym w) n))
-
-    go : Stage b g → Spared started (number (handle-of (word-at (b .state .src + b .state .index) b)))
-    go (Stage.at-rest p u n m) = absurd (omega arith)
-    go (Stage.finding p u c y) = absurd (omega arith)
-    go (Stage.scanning p u s c y) = found s c
-    go (Stage.adding p u s x y z) = absurd (omega arith)
-    go (Stage.sweeping p u a c d f hs q) = absurd (omega arith)
-    go (Stage.reading p x a c) = absurd (omega arith)
-    go (Stage.clearing p x a c) = absurd (omega arith)
-    go (Stage.writing p x a c) = absurd (omega arith)
-    go (Stage.zeroing p x a c d f h i) = absurd (omega arith)

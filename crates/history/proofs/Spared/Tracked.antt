@@ -3,7 +3,7 @@
 -- marks, and then keeps, is among them. At its end every tuple of the directory was kept, so any other tuple has its handle in the
 -- free list or given to a later one. Assumes nothing.
 use Prim.Native.Nat.{ℕ, _+_, _≤_, _<_}
-use mathlib.Core.Bool.{Bool, true, false, false≢true}
+use mathlib.Core.Bool.{true, false, false≢true}
 use mathlib.Core.List.{List, [], _∷_}
 use mathlib.Core.Logic.{_≢_, inl, inr}
 use mathlib.Core.Path.{_≡_, refl, sym, _∙_, ap, subst}
@@ -16,6 +16,7 @@ use Rattle.history.specs.Agreement.{Reachable, by-register, by-word, han
 use Rattle.history.proofs.Invariant.Statement.{Plan, Ghosts, Inv, word, Chain, Kept, settled, moving, unswept, Contents}
 use Rattle.history.proofs.Lists.Handles.{Among, among, among-done, among-mid, among-ahead, among-free, among-member}
 use Rattle.history.proofs.Relation.Statement.{Match, Holds, Related}
+use Rattle.history.proofs.Invariant.Words.{names-flag}
 
 -- the tuples that a cycle may keep: those reachable as it started, and those made since
 pub data Spared (started : History) (i : ℕ) : Type 0 where
@@ -60,13 +61,6 @@ tracked-on b c p q m number started i x y z = record { not-fewer = i .not-fewer;
 pub match-points : (number : ℕ → ℕ) (w : Word) (v : HWord) → w .flag ≡ true → Match number w v → (o : ℕ) × (v ≡ pointer-to (number (handle-of w)) o)
 match-points number w (datum v) f e = absurd (false≢true (sym (e .0) ∙ f))
 match-points number w (pointer-to i o) f e = (o, ap (λ (x : ℕ). pointer-to x o) (sym (e .2)))
-
-names-flag : (w : Word) → names-tuple w ≡ true → w .flag ≡ true
-names-flag w e = go (w .flag) refl
-  where
-    go : (t : Bool) → w .flag ≡ t → w .flag ≡ true
-    go true q = q
-    go false q = absurd (false≢true (sym (simp q) ∙ e))
 
 module _ (b : Box) (p : Plan) (m : History) (given : List ℕ) (number : ℕ → ℕ) (s : Related b p m given number) (i : Contents b p) (started : History) (t : Tracked b p m number started) where
   kept-number : (h : ℕ) → Kept b p h → number h ≢ 0

@@ -10,7 +10,7 @@ use Rattle.memory.specs.Box.{Box, size-of, marked}
 use Rattle.memory.specs.Collector.{after}
 use Rattle.history.proofs.Invariant.Statement.{Ghosts, Inv}
 use Rattle.history.proofs.Lists.Laid.{laid-le}
-use Rattle.history.proofs.Sweep.Stages.{Scanned, scanned, Zeroed, zeroed-view}
+use Rattle.history.proofs.Sweep.Ghosts.{Scanned, scanned, Zeroed, zeroed-view}
 use Rattle.history.proofs.Sweep.Tuple.{swept-end, entry, end-below-top, more-behind}
 
 -- ---- phase 4

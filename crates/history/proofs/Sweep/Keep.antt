@@ -18,7 +18,7 @@ use Rattle.history.proofs.Lists.Laid.{laid-frame, laid-snoc, laid-to, l
 use Rattle.history.proofs.Invariant.Frame.{SameShape, shape-same, handles-moved, Quiet, quiet-contents, quiet-calm, Next}
 use Rattle.history.proofs.Invariant.Resting.{resting-plan}
 use Rattle.history.proofs.Sweep.Tuple.{swept-end, ahead-other, at-src, control-at-src, behind-laid, live-if-marked, unmarked-other, still-unmarked, settled-unmarked}
-use Rattle.history.proofs.Sweep.Stages.{no-scans, sweep-plan, sweep-ghosts, unlisted, scan-ghosts, Scanned, scanned, next-at, Ended, ended-at, rooms-none, swept-marks, plain-quiet, next-tuple}
+use Rattle.history.proofs.Sweep.Ghosts.{no-scans, sweep-plan, sweep-ghosts, unlisted, scan-ghosts, Scanned, scanned, next-at, Ended, ended-at, rooms-none, swept-marks, plain-quiet, next-tuple}
 
 -- the box with another tuple behind
 abbrev pub kept-box : Box → Box

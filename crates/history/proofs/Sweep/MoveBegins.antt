@@ -15,7 +15,7 @@ use Rattle.history.proofs.Invariant.Words.{word-early, word-unread}
 use Rattle.history.proofs.Lists.Handles.{perm-ahead-mid}
 use Rattle.history.proofs.Lists.Laid.{laid-frame, rooms-one, marked-rooms-frame}
 use Rattle.history.proofs.Invariant.Frame.{SameShape, shape-same, handles-moved, Quiet, quiet-contents, quiet-calm, Next}
-use Rattle.history.proofs.Sweep.Stages.{no-scans, scan-ghosts, Scanned, scanned, next-at, swept-marks, plain-quiet}
+use Rattle.history.proofs.Sweep.Ghosts.{no-scans, scan-ghosts, Scanned, scanned, next-at, swept-marks, plain-quiet}
 use Rattle.history.proofs.Sweep.Tuple.{swept-end, ahead-other, at-src, control-at-src, behind-laid, dest-below-src, live-if-marked, unmarked-here, unmarked-other, still-unmarked}
 
 abbrev pub move-begun-box : Box → Box

@@ -17,7 +17,7 @@ use Rattle.history.proofs.Lists.Handles.{perm-ahead-free}
 use Rattle.history.proofs.Lists.Chain.{chain-push}
 use Rattle.history.proofs.Lists.Laid.{laid-frame, marked-rooms-frame}
 use Rattle.history.proofs.Invariant.Frame.{SameShape, shape-same, handles-moved, Quiet, quiet-contents, quiet-calm, Next}
-use Rattle.history.proofs.Sweep.Stages.{no-scans, sweep-plan, sweep-ghosts, unlisted, scan-ghosts, Scanned, scanned, next-at, rooms-none, swept-marks, Plain, plain-quiet, next-tuple}
+use Rattle.history.proofs.Sweep.Ghosts.{no-scans, sweep-plan, sweep-ghosts, unlisted, scan-ghosts, Scanned, scanned, next-at, rooms-none, swept-marks, Plain, plain-quiet, next-tuple}
 use Rattle.history.proofs.Sweep.Tuple.{swept-end, in-links, not-free, behind-laid, dest-below-src, live-if-unmarked, more-behind}
 
 -- the box where the sweep goes on behind the tuple

@@ -14,7 +14,7 @@ use Rattle.history.specs.Agreement.{Member}
 use Rattle.history.proofs.Invariant.Statement.{Inv, Control, Laid, marked-rooms}
 use Rattle.history.proofs.Lists.Handles.{member-right, member-cases, member-differs, Parts, parts}
 use Rattle.history.proofs.Lists.Laid.{laid-le, laid-rooms, marked-rooms-marked, marked-rooms-unmarked, marked-rooms-le}
-use Rattle.history.proofs.Sweep.Stages.{scan-ghosts, rooms-none, live-swept}
+use Rattle.history.proofs.Sweep.Ghosts.{scan-ghosts, rooms-none, live-swept}
 
 -- where the tuple under the sweep ends
 abbrev pub swept-end : Box → ℕ

@@ -8,27 +8,20 @@ use mathlib.Core.Logic.{_≢_, _⊎_, inl, inr}
 use mathlib.Core.Path.{_≡_, refl, sym, _∙_, ap, subst}
 use native.Mathlib.Decide.{ℕ-discrete, decLt}
 use native.Mathlib.Omega.{arith}
-use lib.ListN.{length, length-set}
-use lib.Seq.{getD-set-same, getD-set-other}
+use lib.ListN.{length-set}
 use Rattle.memory.specs.State.{with-top, with-phase, with-src, with-tuple, with-index}
-use Rattle.memory.specs.Box.{Box, Word, data-word, handle-of, with-state, word-at, put, address, size-of, marked}
+use Rattle.memory.specs.Box.{Box, data-word, handle-of, with-state, word-at, put, address, size-of, marked}
 use Rattle.memory.specs.Collector.{after, at-rest}
 use Rattle.history.specs.Agreement.{Member}
 use Rattle.history.proofs.Invariant.Statement.{Ghosts, Inv, Kept, settled, moving, unswept, surviving, Layout, Zero, Stage}
-use Rattle.history.proofs.Invariant.Words.{word-early, word-late}
+use Rattle.history.proofs.Invariant.Words.{word-early, word-late, put-same, put-other}
 use Rattle.history.proofs.Lists.Handles.{perm-refl}
 use Rattle.history.proofs.Lists.Laid.{laid-le, laid-bounds, laid-frame, laid-words, laid-none}
 use Rattle.history.proofs.Invariant.Frame.{SameShape, shape-same, handles-same, handles-moved, layout-same, marks-same, kept-same, Quiet, quiet-contents, quiet-calm, Next}
 use Rattle.history.proofs.Invariant.Resting.{resting-plan}
-use Rattle.history.proofs.Sweep.Stages.{no-scans, sweep-ghosts, unlisted, zero-ghosts, Zeroed, zeroed-view, next-at, Ended, ended-at, rooms-none, marked-rooms-nil, live-swept, kept-swept, plain-quiet, next-tuple}
+use Rattle.history.proofs.Sweep.Ghosts.{no-scans, sweep-ghosts, unlisted, zero-ghosts, Zeroed, zeroed-view, next-at, Ended, ended-at, rooms-none, marked-rooms-nil, live-swept, kept-swept, plain-quiet, next-tuple}
 
 -- ---- a word is put into memory
-
-pub put-same : (b : Box) (a : ℕ) (w : Word) → a < length (b .words) → a < length (b .flags) → word-at a (put a w b) ≡ w
-put-same b a w l m = λ i. record { bits = getD-set-same (b .words) a (w .bits) 0 l i; flag = getD-set-same (b .flags) a (w .flag) false m i }
-
-pub put-other : (b : Box) (a x : ℕ) (w : Word) → x ≢ a → word-at x (put a w b) ≡ word-at x b
-put-other b a x w n = λ i. record { bits = getD-set-other (b .words) a x (w .bits) 0 n i; flag = getD-set-other (b .flags) a x (w .flag) false n i }
 
 -- ---- a word becomes data 0
 
@@ -41,10 +34,10 @@ module _ (b : Box) (ds hs free : List ℕ) (v : Inv b (zero-ghosts b ds hs free)
   zeroed-below-top = laid-le b (b .state .src + b .state .size + 1) hs (b .state .top) (v .layout .ahead-laid)
 
   zeroed-other : (x : ℕ) → x ≢ b .state .src + b .state .index → word-at x (zeroed-box b) ≡ word-at x b
-  zeroed-other x n = put-other b (b .state .src + b .state .index) x (data-word 0) n
+  zeroed-other x n = put-other (b .state .src + b .state .index) (data-word 0) b x n
 
   zeroed-here : word-at (b .state .src + b .state .index) (zeroed-box b) ≡ data-word 0
-  zeroed-here = put-same b (b .state .src + b .state .index) (data-word 0) (omega (arith, zeroed-below-top, v .layout .top-fits, v .shape .words-length)) (omega (arith, zeroed-below-top, v .layout .top-fits, v .shape .flags-length))
+  zeroed-here = put-same (b .state .src + b .state .index) (data-word 0) b (omega (arith, zeroed-below-top, v .layout .top-fits, v .shape .words-length)) (omega (arith, zeroed-below-top, v .layout .top-fits, v .shape .flags-length))
 
   zeroed-shape : SameShape b (zeroed-box b)
   zeroed-shape = record { m-same = refl; h-same = refl; words-same = length-set (b .words) (b .state .src + b .state .index) 0; flags-same = length-set (b .flags) (b .state .src + b .state .index) false; addresses-same = refl; sizes-same = refl; links-same = refl; marks-same = refl; deeps-same = refl; registers-same = refl; register-flags-same = refl; held-same = λ e. (e, refl) }

@@ -24,6 +24,10 @@ pub and-right : (s t : Bool) → s && t ≡ true → t ≡ true
 and-right true t e = e
 and-right false t e = absurd (true-is-not-false (sym e))
 
+pub and-false : (t : Bool) → (t && false) ≡ false
+and-false true = refl
+and-false false = refl
+
 -- ---- decisions
 
 pub le? : (a b : ℕ) → (a ≤ b) ⊎ (b < a)

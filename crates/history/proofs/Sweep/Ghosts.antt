@@ -9,10 +9,11 @@ use native.Mathlib.Omega.{arith}
 use Rattle.memory.specs.Box.{Box, handle-of, word-at, register, address, size-of, marked, deep}
 use Rattle.memory.specs.Collector.{at-rest}
 use Rattle.history.specs.Agreement.{Member}
-use Rattle.history.proofs.Invariant.Statement.{Plan, Scans, Ghosts, Inv, word, Laid, rooms, marked-rooms, Kept, settled, moving, unswept, surviving, Marks, Stage, Unlisted}
+use Rattle.history.proofs.Invariant.Statement.{Plan, Scans, Ghosts, Inv, word, Laid, rooms, marked-rooms, Kept, settled, moving, unswept, surviving, Marks, Unlisted}
 use Rattle.history.proofs.Lists.Laid.{Front, laid-front}
 use Rattle.history.proofs.Invariant.Frame.{Quiet, Calm, Next}
 use Rattle.history.proofs.Invariant.Resting.{Finished, resting-plan, resting, finished}
+use Rattle.history.proofs.Invariant.Stages.{Sweeps, sweeps-of, Zeroes, zeroes-of}
 
 -- ---- the ghosts in full form
 
@@ -46,20 +47,10 @@ pub record Scanned (b : Box) (g : Ghosts) : Type 0 where
   pub inv : Inv b (scan-ghosts b settled-tuples behind-it free-handles)
 
 pub scanned : (b : Box) (g : Ghosts) → Inv b g → b .state .phase ≡ 4 → Scanned b g
-scanned b g v p = cases (v .stage)
-  where
-    cases : Stage b g → Scanned b g
-    cases (Stage.at-rest q u l f) = absurd (omega arith)
-    cases (Stage.finding q u c y) = absurd (omega arith)
-    cases (Stage.scanning q u s c f) = absurd (omega arith)
-    cases (Stage.adding q u s c t f) = absurd (omega arith)
-    cases (Stage.sweeping q u m l s z hs a) =
-        let e : g ≡ scan-ghosts b (g .plan .done) hs (g .free) = ghosts-are g (b .state .dest) (b .state .src) (b .state .src) (b .state .tuple ∷ hs) u m l s z a in
-        record { settled-tuples = g .plan .done; behind-it = hs; free-handles = g .free; are = e; inv = subst (λ (x : Ghosts). Inv b x) e v }
-    cases (Stage.reading q m i z) = absurd (omega arith)
-    cases (Stage.clearing q m i z) = absurd (omega arith)
-    cases (Stage.writing q m i z) = absurd (omega arith)
-    cases (Stage.zeroing q u m l s d i z) = absurd (omega arith)
+scanned b g v p =
+    let s : Sweeps b g = sweeps-of b g (v .stage) p in
+    let e : g ≡ scan-ghosts b (g .plan .done) (s .behind) (g .free) = ghosts-are g (b .state .dest) (b .state .src) (b .state .src) (b .state .tuple ∷ s .behind) (s .unlisted) (s .no-mid) (s .low-is) (s .base-is) (s .zeroed-is) (s .ahead-is) in
+    record { settled-tuples = g .plan .done; behind-it = s .behind; free-handles = g .free; are = e; inv = subst (λ (x : Ghosts). Inv b x) e v }
 
 -- ---- phase 8: the tuple under the sweep is freed already, and those ahead lie behind it
 
@@ -76,20 +67,10 @@ pub record Zeroed (b : Box) (g : Ghosts) : Type 0 where
   pub index-most : b .state .index ≤ b .state .size + 1
 
 pub zeroed-view : (b : Box) (g : Ghosts) → Inv b g → b .state .phase ≡ 8 → Zeroed b g
-zeroed-view b g v p = cases (v .stage)
-  where
-    cases : Stage b g → Zeroed b g
-    cases (Stage.at-rest q u l f) = absurd (omega arith)
-    cases (Stage.finding q u c y) = absurd (omega arith)
-    cases (Stage.scanning q u s c f) = absurd (omega arith)
-    cases (Stage.adding q u s c t f) = absurd (omega arith)
-    cases (Stage.sweeping q u m l s z hs a) = absurd (omega arith)
-    cases (Stage.reading q m i z) = absurd (omega arith)
-    cases (Stage.clearing q m i z) = absurd (omega arith)
-    cases (Stage.writing q m i z) = absurd (omega arith)
-    cases (Stage.zeroing q u m l s d i z) =
-        let e : g ≡ zero-ghosts b (g .plan .done) (g .plan .ahead) (g .free) = ghosts-are g (b .state .dest) (b .state .src + b .state .size + 1) (b .state .src + b .state .index) (g .plan .ahead) u m l s z refl in
-        record { settled-tuples = g .plan .done; behind-it = g .plan .ahead; free-handles = g .free; are = e; inv = subst (λ (x : Ghosts). Inv b x) e v; dest-src = d; index-most = i }
+zeroed-view b g v p =
+    let s : Zeroes b g = zeroes-of b g (v .stage) p in
+    let e : g ≡ zero-ghosts b (g .plan .done) (g .plan .ahead) (g .free) = ghosts-are g (b .state .dest) (b .state .src + b .state .size + 1) (b .state .src + b .state .index) (g .plan .ahead) (s .unlisted) (s .no-mid) (s .low-is) (s .base-is) (s .zeroed-is) refl in
+    record { settled-tuples = g .plan .done; behind-it = g .plan .ahead; free-handles = g .free; are = e; inv = subst (λ (x : Ghosts). Inv b x) e v; dest-src = s .dest-src; index-most = s .index-most }
 
 -- what is shown at the ghosts in full form holds at the ghosts
 pub next-at : (b : Box) (g g′ : Ghosts) (c : Box) → g ≡ g′ → Next b g′ c → Next b g c
