@@ -16,8 +16,8 @@ use Rattle.memory.specs.Open.{opened-state, opened, opening}
 use Rattle.history.specs.Machine.{HWord, fresh, datum, register-of, Call, ask, single-step, run-for, feed}
 use Rattle.history.specs.Calls.{Pending, empty-log, World, start, log-step, after-request, after-step, after-run, play-call, play, CallInWidth, CallsInWidth}
 use Rattle.history.specs.Demand3.{Every, IfThere, InTime, Demand3, Demand3Claim}
-use Rattle.history.proofs.Invariant.Statement.{Inv, Kept, settled, moving, unswept, surviving}
-use Rattle.history.proofs.Invariant.Resting.{resting, resting-plan}
+use Rattle.history.proofs.Invariant.Statement.{Inv}
+use Rattle.history.proofs.Invariant.Resting.{resting, resting-plan, none-kept}
 use Rattle.history.proofs.Left.Bounds.{left-positive}
 use Rattle.history.proofs.Left.Count.{left}
 use Rattle.history.proofs.Asking.Opening.{handles-below}
@@ -35,19 +35,13 @@ use Rattle.history.proofs.Good.Steps.{After, GoodRun, good-run}
 opened-related : (m h : ℕ) (free : List ℕ) → Related (opened m h) (resting-plan []) fresh [] (λ x. 0)
 unfolding opened opened-state fresh
 opened-related m h free =
-    record { roots-match = roots; kept-hold = λ x k. absurd (nothing x k); nil-number = refl; all-given = refl; given-entry = λ i l u. absurd (omega arith); number-latest = λ i l u. absurd (omega arith) }
+    record { roots-match = roots; kept-hold = λ x k. absurd (none-kept (opened m h) x k); nil-number = refl; all-given = refl; given-entry = λ i l u. absurd (omega arith); number-latest = λ i l u. absurd (omega arith) }
   where
     roots : (r : ℕ) → r < register-count → Match (λ x. 0) (register r (opened m h)) (register-of r fresh)
     roots r l = subst (λ (v : HWord). Match (λ x. 0) (register r (opened m h)) v) (sym (getD-replicate register-count r (datum 0) (datum 0) l)) (subst (λ (w : Word). Match (λ x. 0) w (datum 0)) (sym zero-then) (refl, refl))
       where
         zero-then : register r (opened m h) ≡ data-word 0
         zero-then = λ j. record { bits = getD-replicate register-count r 0 0 l j; flag = getD-replicate register-count r false false l j }
-
-    nothing : (x : ℕ) → Kept (opened m h) (resting-plan []) x → ⊥
-    nothing x (settled y) = y
-    nothing x (moving y) = y
-    nothing x (unswept y l) = y
-    nothing x (surviving y t) = y
 
 opened-good : (m h : ℕ) → Inv (opened m h) (resting [] (handles-below h)) → Good m h (opened m h) fresh empty-log
 unfolding opened opened-state fresh

@@ -13,8 +13,8 @@ use Rattle.memory.specs.Limits.{in-range, register-count}
 use Rattle.memory.specs.Box.{Word, data-word, names-tuple, word-at, register}
 use Rattle.memory.specs.Open.{opened, opened-state, opened-link, opened-links}
 use Rattle.history.specs.Agreement.{Member, Distinct}
-use Rattle.history.proofs.Invariant.Statement.{Chain, Kept, settled, moving, unswept, surviving, Inv, Shape, Handles, Layout, Contents, Zero, Marks, Stage, rooms, marked-rooms}
-use Rattle.history.proofs.Invariant.Resting.{resting-plan, resting}
+use Rattle.history.proofs.Invariant.Statement.{Chain, Inv, Shape, Handles, Layout, Contents, Zero, Marks, Stage, rooms, marked-rooms}
+use Rattle.history.proofs.Invariant.Resting.{resting-plan, resting, none-kept}
 use Rattle.history.proofs.View.Tests.{and-left, and-right}
 
 -- ---- n handles from i on
@@ -145,15 +145,9 @@ open-layout : (m h : ℕ) → Layout (opened m h) (resting-plan [])
 unfolding opened opened-state rooms
 open-layout m h = record { done-laid = refl; ahead-laid = refl; low-base = omega arith; top-fits = omega arith }
 
-none-kept : (m h x : ℕ) → ¬ Kept (opened m h) (resting-plan []) x
-none-kept m h x (settled y) = y
-none-kept m h x (moving y) = y
-none-kept m h x (unswept y l) = y
-none-kept m h x (surviving y t) = y
-
 open-contents : (m h : ℕ) → Contents (opened m h) (resting-plan [])
 open-contents m h =
-    record { roots-kept = λ r l n. absurd (false≢true (subst (λ (w : Word). names-tuple w ≡ true) (open-register m h r) n)); words-kept = λ x y. absurd (none-kept m h x y) }
+    record { roots-kept = λ r l n. absurd (false≢true (subst (λ (w : Word). names-tuple w ≡ true) (open-register m h r) n)); words-kept = λ x y. absurd (none-kept (opened m h) x y) }
 
 open-zero : (m h : ℕ) → Zero (opened m h) 0
 open-zero m h = record { above-top = λ a l. open-word m h a; behind = λ a l u. open-word m h a }

@@ -12,7 +12,7 @@ use Rattle.history.specs.Agreement.{Member}
 use Rattle.history.proofs.Invariant.Statement.{Plan, Ghosts, Inv, word, Kept, settled, moving, unswept, surviving}
 use Rattle.history.proofs.Invariant.Frame.{Quiet}
 use Rattle.history.proofs.Marking.Alike.{address-alike, with-scans}
-use Rattle.history.proofs.Marking.Shade.{Steady, shade-scans, shade-alike, shade-steady, shade-mark, shade-quiet, shade-inv}
+use Rattle.history.proofs.Marking.Shade.{SameNumbers, shade-scans, shade-alike, shade-numbers, shade-mark, shade-quiet, shade-inv}
 use Rattle.history.proofs.Invariant.Stages.{rests-of, unswept-of, kept-ahead}
 use Rattle.history.proofs.Asking.Places.{place-by}
 use Rattle.history.proofs.Asking.InRange.{kept-bounds}
@@ -67,7 +67,7 @@ rest-unmarked b g v e h (surviving x m) = rests-of b g (v .stage) e .unmarked h 
 
 shade-place : (t h i : ℕ) (b : Box) → place h i (shade t b) ≡ place h i b
 shade-place t h i b =
-    let s : Steady b (shade t b) = shade-steady t b in
+    let s : SameNumbers b (shade t b) = shade-numbers t b in
     place-by h i b (shade t b) (s .phase-is) (s .tuple-is) (s .index-is) (s .dest-is) (address-alike b (shade t b) (shade-alike t b) h)
 
 module _ (b : Box) (g : Ghosts) (v : Inv b g) (h n : ℕ) (k : Kept b (g .plan) h) (l : n < size-of h b) (w : Word) (t : Kept b (g .plan) (handle-of w)) (s : Shades w b) where

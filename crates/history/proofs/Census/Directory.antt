@@ -15,7 +15,7 @@ use Rattle.history.proofs.Invariant.Statement.{Ghosts, Inv, rooms, unsw
 use Rattle.history.proofs.Lists.Handles.{Parts, parts, Among, among, among-done, among-mid, among-ahead, among-free, among-member}
 use Rattle.history.proofs.Lists.Chain.{Headed, no-head, head-first, chain-headed, chain-empty}
 use Rattle.history.proofs.Lists.Laid.{laid-rooms}
-use Rattle.history.proofs.Lists.Numbers.{minus, Within, minus-distinct, minus-member, minus-out, minus-in, minus-room, within-room, within-length, upto, upto-bounds, upto-member, upto-distinct}
+use Rattle.history.proofs.Lists.Numbers.{minus, Sublist, minus-distinct, minus-member, minus-out, minus-in, minus-room, sublist-room, sublist-length, upto, upto-bounds, upto-member, upto-distinct}
 use Rattle.history.proofs.Relation.Statement.{Holds, Related, Keeps, reached}
 use Rattle.history.proofs.Spared.Tracked.{free-listed, listed-free}
 use Rattle.history.proofs.Invariant.Stages.{kept-ahead, unswept-of}
@@ -152,7 +152,7 @@ module _ (b : Box) (g : Ghosts) (m : History) (given : List ℕ) (number : ℕ �
   unfoldable pub dead : List ℕ
   dead = minus (upto (made m)) alive
 
-  alive-within : Within alive (upto (made m))
+  alive-within : Sublist alive (upto (made m))
   alive-within i x = let l : IsNumber i m = alive-made i x in upto-member (made m) i (l .0) (l .1)
 
   pub all-made-lists : Lists (λ i. IsNumber i m) (upto (made m))
@@ -201,9 +201,9 @@ module _ (b : Box) (g : Ghosts) (m : History) (given : List ℕ) (number : ℕ �
   pub fits-if-room : (is : List ℕ) → Lists (Reachable m) is → (n : ℕ) → b .state .free ≢ 0 → b .state .top + n + 1 ≤ b .state .m → Fits (b .state .m) (b .state .h) is n m
   unfolding alive
   fits-if-room is l n f t =
-      let w : Within is (numbers number (g .plan .ahead)) = λ i x. reachable-alive i (l .sound i x) in
-      let r : room is m ≤ room (numbers number (g .plan .ahead)) m = within-room (numbers number (g .plan .ahead)) is m (l .distinct) w in
-      let k : length is ≤ length (numbers number (g .plan .ahead)) = within-length (numbers number (g .plan .ahead)) is (l .distinct) w in
+      let w : Sublist is (numbers number (g .plan .ahead)) = λ i x. reachable-alive i (l .sound i x) in
+      let r : room is m ≤ room (numbers number (g .plan .ahead)) m = sublist-room (numbers number (g .plan .ahead)) is m (l .distinct) w in
+      let k : length is ≤ length (numbers number (g .plan .ahead)) = sublist-length (numbers number (g .plan .ahead)) is (l .distinct) w in
       let e₁ : room (numbers number (g .plan .ahead)) m ≡ b .state .top = alive-room in
       let e₂ : length (numbers number (g .plan .ahead)) ≡ length (g .plan .ahead) = numbers-length number (g .plan .ahead) in
       let c : suc (length (g .plan .ahead) + length (g .free)) ≡ b .state .h = free-count in
@@ -215,19 +215,19 @@ module _ (b : Box) (g : Ghosts) (m : History) (given : List ℕ) (number : ℕ �
   unfolding alive
   no-fit is l a n r f = go r
     where
-      w : Within (numbers number (g .plan .ahead)) is
+      w : Sublist (numbers number (g .plan .ahead)) is
       w = λ i x. l .complete i (a i x)
 
       go : (b .state .free ≡ 0) ⊎ (b .state .m < b .state .top + n + 1) → ⊥
       go (inl z) =
-          let k : length (numbers number (g .plan .ahead)) ≤ length is = within-length is (numbers number (g .plan .ahead)) alive-distinct w in
+          let k : length (numbers number (g .plan .ahead)) ≤ length is = sublist-length is (numbers number (g .plan .ahead)) alive-distinct w in
           let e₂ : length (numbers number (g .plan .ahead)) ≡ length (g .plan .ahead) = numbers-length number (g .plan .ahead) in
           let c : suc (length (g .plan .ahead) + length (g .free)) ≡ b .state .h = free-count in
           let o : length (g .free) ≡ 0 = free-none z in
           let u : length is + 1 ≤ b .state .h - 1 = f .handles-fit in
           omega arith
       go (inr z) =
-          let r : room (numbers number (g .plan .ahead)) m ≤ room is m = within-room is (numbers number (g .plan .ahead)) m alive-distinct w in
+          let r : room (numbers number (g .plan .ahead)) m ≤ room is m = sublist-room is (numbers number (g .plan .ahead)) m alive-distinct w in
           let e₁ : room (numbers number (g .plan .ahead)) m ≡ b .state .top = alive-room in
           let u : room is m + (n + 1) ≤ b .state .m = f .words-fit in
           omega arith

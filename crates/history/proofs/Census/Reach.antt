@@ -29,7 +29,7 @@ record Outside (xs : List ℕ) (v : HWord) : Type 0 where
   not-in : ¬ Member number xs
 
 -- the constructors apart, and their parts
-abbrev target : HWord → ℕ
+abbrev pub target : HWord → ℕ
 target (datum v) = 0
 target (pointer-to i o) = i
 

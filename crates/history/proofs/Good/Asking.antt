@@ -19,7 +19,7 @@ use Rattle.history.specs.Calls.{Log, given-by, disturb, pend, log-done, 
 use Rattle.history.proofs.Invariant.Statement.{Scans, Ghosts, Inv, Kept}
 use Rattle.history.proofs.View.Request.{named, number as number-in, place-of, There}
 use Rattle.history.proofs.Marking.Alike.{with-scans}
-use Rattle.history.proofs.Marking.Shade.{shade-scans, shade-alike, shade-steady}
+use Rattle.history.proofs.Marking.Shade.{shade-scans, shade-alike, shade-numbers}
 use Rattle.history.proofs.Left.Count.{left}
 use Rattle.history.proofs.Left.Bounds.{left-bound-m}
 use Rattle.history.proofs.Left.Same.{left-held}
@@ -149,7 +149,7 @@ unfolding new-tuple take-room new-entry
 new-held r n tag b = refl
 
 -- a write at a place changes memory or the copy register alone
-record Written (b c : Box) : Type 0 where
+record WriteKeeps (b c : Box) : Type 0 where
   m-same : c .state .m ≡ b .state .m
   h-same : c .state .h ≡ b .state .h
   held-same : c .state .held ≡ b .state .held
@@ -157,10 +157,10 @@ record Written (b c : Box) : Type 0 where
   tuple-same : c .state .tuple ≡ b .state .tuple
   marked-same : (x : ℕ) → marked x c ≡ marked x b
 
-written : (p : Place) (w : Word) (b : Box) → Written b (write p w b)
+write-keeps : (p : Place) (w : Word) (b : Box) → WriteKeeps b (write p w b)
 unfolding write
-written copy-place w b = record { m-same = refl; h-same = refl; held-same = refl; phase-same = refl; tuple-same = refl; marked-same = λ x. refl }
-written (at a) w b = record { m-same = refl; h-same = refl; held-same = refl; phase-same = refl; tuple-same = refl; marked-same = λ x. refl }
+write-keeps copy-place w b = record { m-same = refl; h-same = refl; held-same = refl; phase-same = refl; tuple-same = refl; marked-same = λ x. refl }
+write-keeps (at a) w b = record { m-same = refl; h-same = refl; held-same = refl; phase-same = refl; tuple-same = refl; marked-same = λ x. refl }
 
 module _ (m h : ℕ) (b : Box) (t : History) (l : Log) (k : Good m h b t l) (u : b .state .held ≡ false) where
   abbrev g : Ghosts
@@ -214,26 +214,26 @@ module _ (m h : ℕ) (b : Box) (t : History) (l : Log) (k : Good m h b t l) (u :
       good-store r s n lr ls th (write (place-of s n b) (register r b) b) (g .scans) (stores-data b g (k .inv) (named s b) (number-in s n b) (stored-kept s n ls th) (th .inside) (register r b) d) (data-stored b g (k .inv) (named s b) (number-in s n b) (stored-kept s n ls th) (th .inside) (register r b))
       (record { m-same = w .m-same; h-same = w .h-same; held-same = w .held-same; phase-same = w .phase-same }) (w .tuple-same) (λ x z. inl (sym (w .marked-same x) ∙ z))
     where
-      w : Written b (write (place-of s n b) (register r b) b)
-      w = written (place-of s n b) (register r b) b
+      w : WriteKeeps b (write (place-of s n b) (register r b) b)
+      w = write-keeps (place-of s n b) (register r b) b
 
   pub good-store-deep : (r s n : ℕ) → r < register-count → s < register-count → There s n b → Inv (write (place-of s n b) (register r b) (set-deep (named s b) true b)) g → Good m h (write (place-of s n b) (register r b) (set-deep (named s b) true b)) (do-request (Store r s n) t) (log-done (Store r s n) (write (place-of s n b) (register r b) (set-deep (named s b) true b)) l)
   good-store-deep r s n lr ls th v =
       good-store r s n lr ls th (write (place-of s n b) (register r b) (set-deep (named s b) true b)) (g .scans) v (deep-stored b g (k .inv) (named s b) (number-in s n b) (stored-kept s n ls th) (th .inside) (register r b))
       (record { m-same = w .m-same; h-same = w .h-same; held-same = w .held-same; phase-same = w .phase-same }) (w .tuple-same) (λ x z. inl (sym (w .marked-same x) ∙ z))
     where
-      w : Written (set-deep (named s b) true b) (write (place-of s n b) (register r b) (set-deep (named s b) true b))
-      w = written (place-of s n b) (register r b) (set-deep (named s b) true b)
+      w : WriteKeeps (set-deep (named s b) true b) (write (place-of s n b) (register r b) (set-deep (named s b) true b))
+      w = write-keeps (place-of s n b) (register r b) (set-deep (named s b) true b)
 
   pub good-store-shaded : (r s n : ℕ) → r < register-count → s < register-count → There s n b → names-tuple (register r b) ≡ true → 1 ≤ b .state .phase → b .state .phase ≤ 3 → Good m h (write (place-of s n b) (register r b) (set-deep (named s b) true (shade (named r b) b))) (do-request (Store r s n) t) (log-done (Store r s n) (write (place-of s n b) (register r b) (set-deep (named s b) true (shade (named r b) b))) l)
   good-store-shaded r s n lr ls th d p q =
       good-store r s n lr ls th (write (place-of s n b) (register r b) (set-deep (named s b) true (shade (named r b) b))) (shade-scans (named r b) b (g .scans)) (stores-shaded b g (k .inv) (named s b) (number-in s n b) (stored-kept s n ls th) (th .inside) (register r b) target (record { names = d; phase-least = p; phase-most = q }))
       (shaded-stored b g (k .inv) (named s b) (number-in s n b) (stored-kept s n ls th) (th .inside) (register r b) target (record { names = d; phase-least = p; phase-most = q }))
-      (record { m-same = w .m-same ∙ shade-alike (named r b) b .m-is; h-same = w .h-same ∙ shade-alike (named r b) b .h-is; held-same = w .held-same ∙ shade-alike (named r b) b .held-is; phase-same = w .phase-same ∙ shade-steady (named r b) b .phase-is }) (w .tuple-same ∙ shade-steady (named r b) b .tuple-is)
+      (record { m-same = w .m-same ∙ shade-alike (named r b) b .m-is; h-same = w .h-same ∙ shade-alike (named r b) b .h-is; held-same = w .held-same ∙ shade-alike (named r b) b .held-is; phase-same = w .phase-same ∙ shade-numbers (named r b) b .phase-is }) (w .tuple-same ∙ shade-numbers (named r b) b .tuple-is)
       (λ x z. shade-marked-only (named r b) b (λ (y : ℕ). (names-tuple (register r b) ≡ true) × (y ≡ named r b)) (d, refl) x (sym (w .marked-same x) ∙ z))
     where
       target : Kept b (g .plan) (named r b)
       target = k .inv .contents .roots-kept r lr d
 
-      w : Written (set-deep (named s b) true (shade (named r b) b)) (write (place-of s n b) (register r b) (set-deep (named s b) true (shade (named r b) b)))
-      w = written (place-of s n b) (register r b) (set-deep (named s b) true (shade (named r b) b))
+      w : WriteKeeps (set-deep (named s b) true (shade (named r b) b)) (write (place-of s n b) (register r b) (set-deep (named s b) true (shade (named r b) b)))
+      w = write-keeps (place-of s n b) (register r b) (set-deep (named s b) true (shade (named r b) b))

@@ -8,7 +8,7 @@ use native.Mathlib.Omega.{arith}
 use Rattle.memory.specs.Box.{Box, data-word, word-at, marked}
 use Rattle.memory.specs.Collector.{at-rest}
 use Rattle.history.specs.Agreement.{Member}
-use Rattle.history.proofs.Invariant.Statement.{Plan, Ghosts, Inv, Laid, Shape, Handles, Layout, Contents, Zero, Marks, Stage, rooms}
+use Rattle.history.proofs.Invariant.Statement.{Plan, Ghosts, Inv, Laid, Shape, Handles, Layout, Contents, Zero, Marks, Stage, rooms, Kept, settled, moving, unswept, surviving}
 use Rattle.history.proofs.Lists.Laid.{marked-rooms-none, laid-frame}
 
 -- every tuple ahead, from word 0
@@ -54,3 +54,10 @@ rest-marks c hs free f = record { free-unmarked = f .free-unmarked; done-unmarke
 pub finished : (c : Box) (hs free : List ℕ) → Finished c hs free → Inv (at-rest c) (resting hs free)
 unfolding at-rest
 finished c hs free f = record { shape = rest-shape c (f .shape); handles = rest-handles c hs free (f .handles); layout = rest-layout c hs free f; contents = f .contents; zero-words = rest-zero c hs free f; marks = rest-marks c hs free f; stage = Stage.at-rest refl (record { no-done = refl; no-mid = refl; low-zero = refl; base-zero = refl; zeroed-zero = refl }) (record { no-nexts = refl; no-currents = refl; no-gray = refl }) (f .unmarked) }
+
+-- where no tuple is left, none is kept
+pub none-kept : (b : Box) (h : ℕ) → ¬ Kept b (resting-plan []) h
+none-kept b h (settled x) = x
+none-kept b h (moving x) = x
+none-kept b h (unswept x l) = x
+none-kept b h (surviving x t) = x

@@ -2,29 +2,28 @@
 -- transition meets its lemma: the invariant again, the steps left fall, the hold stays, and what is marked and kept is spared. A test
 -- that would answer 9 contradicts the invariant. Assumes nothing.
 use Prim.Native.Nat.{ℕ, _+_, _≤_, _<_}
-use mathlib.Core.Bool.{Bool, true, false, _||_}
+use mathlib.Core.Bool.{Bool, true, false}
 use mathlib.Core.List.{List, []}
 use mathlib.Core.Logic.{_≢_, _⊎_, inl}
 use mathlib.Core.Path.{_≡_, refl, sym, _∙_, ap, subst}
 use native.Mathlib.Omega.{arith}
-use borrow.Author.Tests.{lt-ltb, le-ltb}
 use Rattle.memory.specs.Limits.{register-count}
 use Rattle.memory.specs.State.{with-next}
 use Rattle.memory.specs.Box.{Box, Reply, reply, handle-of, names-tuple, with-state, word-at, register, marked, deep}
 use Rattle.memory.specs.Place.{list-next, mark-live, shade}
-use Rattle.memory.specs.Collector.{going, to-phase, after, at-rest, end-cycle, scan, begin-sweep, go-on, settle-move, copy-word, write-copy, zero-word, step}
+use Rattle.memory.specs.Collector.{going, to-phase, after, at-rest, end-cycle, scan, begin-sweep, go-on, write-copy, zero-word, step}
 use Rattle.history.specs.Machine.{History}
 use Rattle.history.proofs.Invariant.Statement.{Plan, Ghosts, Inv, Kept, Unswept}
 use Rattle.history.proofs.Invariant.Frame.{Next}
-use Rattle.history.proofs.Invariant.Resting.{resting}
+use Rattle.history.proofs.Invariant.Resting.{resting, none-kept}
 use Rattle.history.proofs.Relation.Statement.{Related}
 use Rattle.history.proofs.Spared.Tracked.{Spared, Tracked, root-spared}
 use Rattle.history.proofs.Spared.Steps.{tracked-rests, tracked-marks, tracked-sweep, tracked-swept, ended-spared, shade-marked-only, scanned-spared}
 use Rattle.history.proofs.View.Tests.{true-is-not-false}
-use Rattle.history.proofs.View.Step.{rested, scanned-data, scanned-pointer, swept-size, swept-after, kept-last, kept, move-begun, released, zero-begun, copied, moved-last, moved, cleared, zeroed-last, RootsMarked, Reason, Step, view}
+use Rattle.history.proofs.View.Step.{RootsMarked, Reason, Step, view}
 use Rattle.history.proofs.Marking.Alike.{none-wait, Onward, onward-next}
-use Rattle.history.proofs.Marking.Shade.{shade-steady}
-use Rattle.history.proofs.Marking.Start.{rests-with, takes-next, shades-root}
+use Rattle.history.proofs.Marking.Shade.{shade-numbers}
+use Rattle.history.proofs.Marking.Start.{rests, takes-next, shades-root}
 use Rattle.history.proofs.Marking.Scan.{scans-data, scans-pointer, scan-ends, takes-current, adds-marked, adds-unmarked}
 use Rattle.history.proofs.Marking.Complete.{begins-sweep-onward, ends-empty-inv, ends-empty-calm}
 use Rattle.history.proofs.Marking.InRange.{next-entry, current-entry, root-entry, tuple-entry, root-room, tuple-room, scan-room}
@@ -43,7 +42,8 @@ use Rattle.history.proofs.Moving.Ending.{ends-move}
 use Rattle.history.proofs.Moving.Tuple.{read-fits, Finishes, finish-fits, clear-fits, write-fits}
 use Rattle.history.proofs.Left.Count.{left}
 use Rattle.history.proofs.Left.Steps.{step-left}
-use Rattle.history.proofs.Invariant.Stages.{kept-ahead, unswept-of}
+use Rattle.history.proofs.Invariant.Stages.{unswept-of}
+use Rattle.history.proofs.View.Boxes.{rested-box, scanned-data-box, scanned-pointer-box, swept-size, swept-after, kept-last-box, kept-box, move-begun-box, released-box, zero-begun-box, copied-box, moved-last-box, moved-box, cleared-box, zeroed-last-box}
 
 -- ---- the result
 
@@ -137,11 +137,10 @@ goes b g v c s n =
 
 -- ---- 0
 
-step-rests : (b : Box) (g : Ghosts) → Inv b g → b .state .phase ≡ 0 → step b ≡ going (rested b) → Stepped b g
-unfolding rested
+step-rests : (b : Box) (g : Ghosts) → Inv b g → b .state .phase ≡ 0 → step b ≡ going (rested-box b) → Stepped b g
 step-rests b g v p s =
-    let c : Box = rested b in
-    let n : Next b g c = onward-next b g c none-wait (rests-with (b .state .held || b .state .begun) b g v p) in
+    let c : Box = rested-box b in
+    let n : Next b g c = onward-next b g c none-wait (rests b g v p) in
     goes b g v c s n (search)
     (starts p refl (λ h. simp h) (λ m number. tracked-rests b g v c (n .ghosts .plan) (n .calm) m number p refl (λ h. refl)))
 
@@ -170,7 +169,7 @@ step-shades-root b g v p r l x f s =
     let h : ℕ = handle-of (register r b) in
     let c : Box = shade h b in
     let n : Next b g c = shades-root b g v p r l x in
-    let e : c .state .phase ≡ 1 = shade-steady h b .phase-is ∙ p in
+    let e : c .state .phase ≡ 1 = shade-numbers h b .phase-is ∙ p in
     goes b g v c s n (shade-hold h b .0)
     (marks-spared b g v c n (omega arith) (omega arith) (omega arith) (omega arith) (shade-hold h b .1)
     (λ m given number started q t. shade-marked-only h b (λ (y : ℕ). Spared started (number y)) (root-spared b (g .plan) m given number q (v .contents) started t r l x)))
@@ -187,24 +186,22 @@ step-begins-sweep b g v p z roots t s =
 step-ends-empty : (b : Box) (g : Ghosts) → Inv b g → b .state .phase ≡ 1 → b .state .next ≡ 0 → b .state .top ≡ 0 → step b ≡ end-cycle b b → Stepped b g
 step-ends-empty b g v p z t s =
     ends b s (record { ghosts = resting [] (g .free); inv = ends-empty-inv b g v p z t; calm = ends-empty-calm b (g .plan) }) (omega arith) (search) refl
-    (λ m given number started r x h k. absurd (kept-ahead (at-rest b) (resting [] (g .free)) h (record { no-done = refl; no-mid = refl; low-zero = refl; base-zero = refl; zeroed-zero = refl }) k))
+    (λ m given number started r x h k. absurd (none-kept (at-rest b) h k))
 
 -- ---- 2
 
 step-scans-data : (b : Box) (g : Ghosts) → Inv b g → b .state .phase ≡ 2 → b .state .index ≤ b .state .size
-    → names-tuple (word-at (b .state .src + b .state .index) b) ≡ false → step b ≡ going (scanned-data b) → Stepped b g
-unfolding scanned-data
+    → names-tuple (word-at (b .state .src + b .state .index) b) ≡ false → step b ≡ going (scanned-data-box b) → Stepped b g
 step-scans-data b g v p i f s =
-    let c : Box = scanned-data b in
+    let c : Box = scanned-data-box b in
     let n : Next b g c = scans-data b g v p i f in
     goes b g v c s n (search)
     (marks-none b g v c n (omega arith) (omega arith) (omega arith) (omega arith) refl (λ h. refl))
 
 step-scans-pointer : (b : Box) (g : Ghosts) → Inv b g → b .state .phase ≡ 2 → b .state .index ≤ b .state .size
-    → names-tuple (word-at (b .state .src + b .state .index) b) ≡ true → step b ≡ going (scanned-pointer b) → Stepped b g
-unfolding scanned-pointer
+    → names-tuple (word-at (b .state .src + b .state .index) b) ≡ true → step b ≡ going (scanned-pointer-box b) → Stepped b g
 step-scans-pointer b g v p i f s =
-    let c : Box = scanned-pointer b in
+    let c : Box = scanned-pointer-box b in
     let n : Next b g c = scans-pointer b g v p i f in
     goes b g v c s n (search)
     (tracks (omega arith) (omega arith) refl
@@ -245,86 +242,66 @@ step-adds-unmarked b g v p f s =
 -- ---- 4
 
 step-keeps-last : (b : Box) (g : Ghosts) → Inv b g → b .state .phase ≡ 4 → marked (b .state .tuple) b ≡ true → b .state .src ≡ b .state .dest → swept-after b ≡ b .state .top
-    → step b ≡ end-cycle b (kept-last b) → Stepped b g
-unfolding kept-last
+    → step b ≡ end-cycle b (kept-last-box b) → Stepped b g
 step-keeps-last b g v p t d e s =
-    let n : Next b g (at-rest (kept-last b)) = ended-next b g (kept-last b) (keeps-last b g v p t d e) in
-    ends (kept-last b) s n (omega arith) (search) refl (sweep-spared b g v (at-rest (kept-last b)) n (omega arith))
+    let n : Next b g (at-rest (kept-last-box b)) = ended-next b g (kept-last-box b) (keeps-last b g v p t d e) in
+    ends (kept-last-box b) s n (omega arith) (search) refl (sweep-spared b g v (at-rest (kept-last-box b)) n (omega arith))
 
 step-keeps : (b : Box) (g : Ghosts) → Inv b g → b .state .phase ≡ 4 → marked (b .state .tuple) b ≡ true → b .state .src ≡ b .state .dest → swept-after b ≢ b .state .top
-    → step b ≡ going (kept b) → Stepped b g
-unfolding kept
+    → step b ≡ going (kept-box b) → Stepped b g
 step-keeps b g v p t d e s =
-    let c : Box = kept b in
+    let c : Box = kept-box b in
     let n : Next b g c = keeps b g v p t d e in
     goes b g v c s n (search) (sweeps-track b g v c n (omega arith) (omega arith) refl)
 
-step-starts-move : (b : Box) (g : Ghosts) → Inv b g → b .state .phase ≡ 4 → marked (b .state .tuple) b ≡ true → b .state .src ≢ b .state .dest → step b ≡ going (move-begun b) → Stepped b g
-unfolding move-begun
+step-starts-move : (b : Box) (g : Ghosts) → Inv b g → b .state .phase ≡ 4 → marked (b .state .tuple) b ≡ true → b .state .src ≢ b .state .dest → step b ≡ going (move-begun-box b) → Stepped b g
 step-starts-move b g v p t d s =
-    let c : Box = move-begun b in
+    let c : Box = move-begun-box b in
     let n : Next b g c = starts-move b g v p t d in
     goes b g v c s n (search) (sweeps-track b g v c n (omega arith) (omega arith) refl)
 
-step-releases : (b : Box) (g : Ghosts) → Inv b g → b .state .phase ≡ 4 → marked (b .state .tuple) b ≡ false → b .state .src + swept-size b < b .state .live → step b ≡ going (released b) → Stepped b g
-unfolding released
+step-releases : (b : Box) (g : Ghosts) → Inv b g → b .state .phase ≡ 4 → marked (b .state .tuple) b ≡ false → b .state .src + swept-size b < b .state .live → step b ≡ going (released-box b) → Stepped b g
 step-releases b g v p t l s =
-    let c : Box = released b in
+    let c : Box = released-box b in
     let n : Next b g c = releases b g v p t l in
     goes b g v c s n (search) (sweeps-track b g v c n (omega arith) (omega arith) refl)
 
-step-starts-zero : (b : Box) (g : Ghosts) → Inv b g → b .state .phase ≡ 4 → marked (b .state .tuple) b ≡ false → b .state .live ≤ b .state .src + swept-size b → step b ≡ going (zero-begun b) → Stepped b g
-unfolding zero-begun
+step-starts-zero : (b : Box) (g : Ghosts) → Inv b g → b .state .phase ≡ 4 → marked (b .state .tuple) b ≡ false → b .state .live ≤ b .state .src + swept-size b → step b ≡ going (zero-begun-box b) → Stepped b g
 step-starts-zero b g v p t l s =
-    let c : Box = zero-begun b in
+    let c : Box = zero-begun-box b in
     let n : Next b g c = starts-zero b g v p t l in
     goes b g v c s n (search) (sweeps-track b g v c n (omega arith) (omega arith) refl)
 
 -- ---- 5
 
-copied-low : (b : Box) → b .state .src + b .state .index < b .state .live → copied 7 b ≡ copy-word (b .state .src + b .state .index) b
-unfolding copied copy-word
-copied-low b l = simp (lt-ltb (b .state .src + b .state .index) (b .state .live) l)
-
-copied-high : (b : Box) → b .state .live ≤ b .state .src + b .state .index → copied 6 b ≡ copy-word (b .state .src + b .state .index) b
-unfolding copied copy-word
-copied-high b l = simp (le-ltb (b .state .src + b .state .index) (b .state .live) l)
-
-step-copies-low : (b : Box) (g : Ghosts) → Inv b g → b .state .phase ≡ 5 → b .state .index ≤ b .state .size → b .state .src + b .state .index < b .state .live → step b ≡ going (copied 7 b) → Stepped b g
-unfolding copy-word
+step-copies-low : (b : Box) (g : Ghosts) → Inv b g → b .state .phase ≡ 5 → b .state .index ≤ b .state .size → b .state .src + b .state .index < b .state .live → step b ≡ going (copied-box 7 b) → Stepped b g
 step-copies-low b g v p i l s =
-    let c : Box = copy-word (b .state .src + b .state .index) b in
+    let c : Box = copied-box 7 b in
     let n : Next b g c = copies-low b g v p i l in
-    let q : c .state .phase ≡ 7 = simp (lt-ltb (b .state .src + b .state .index) (b .state .live) l) in
-    goes b g v c (s ∙ ap going (copied-low b l)) n (search) (sweeps-track b g v c n (omega arith) (omega arith) refl)
+    goes b g v c s n (search) (sweeps-track b g v c n (omega arith) (omega arith) refl)
 
-step-copies-high : (b : Box) (g : Ghosts) → Inv b g → b .state .phase ≡ 5 → b .state .index ≤ b .state .size → b .state .live ≤ b .state .src + b .state .index → step b ≡ going (copied 6 b) → Stepped b g
-unfolding copy-word
+step-copies-high : (b : Box) (g : Ghosts) → Inv b g → b .state .phase ≡ 5 → b .state .index ≤ b .state .size → b .state .live ≤ b .state .src + b .state .index → step b ≡ going (copied-box 6 b) → Stepped b g
 step-copies-high b g v p i l s =
-    let c : Box = copy-word (b .state .src + b .state .index) b in
+    let c : Box = copied-box 6 b in
     let n : Next b g c = copies-high b g v p i l in
-    let q : c .state .phase ≡ 6 = simp (le-ltb (b .state .src + b .state .index) (b .state .live) l) in
-    goes b g v c (s ∙ ap going (copied-high b l)) n (search) (sweeps-track b g v c n (omega arith) (omega arith) refl)
+    goes b g v c s n (search) (sweeps-track b g v c n (omega arith) (omega arith) refl)
 
-step-moves-on : (b : Box) (g : Ghosts) → Inv b g → b .state .phase ≡ 5 → b .state .size < b .state .index → after b ≢ b .state .top → step b ≡ going (moved b) → Stepped b g
-unfolding moved go-on settle-move
+step-moves-on : (b : Box) (g : Ghosts) → Inv b g → b .state .phase ≡ 5 → b .state .size < b .state .index → after b ≢ b .state .top → step b ≡ going (moved-box b) → Stepped b g
 step-moves-on b g v p i e s =
-    let c : Box = moved b in
+    let c : Box = moved-box b in
     let n : Next b g c = moves-on b g v p i e in
     goes b g v c s n (search) (sweeps-track b g v c n (omega arith) (omega arith) refl)
 
-step-ends-move : (b : Box) (g : Ghosts) → Inv b g → b .state .phase ≡ 5 → b .state .size < b .state .index → after b ≡ b .state .top → step b ≡ end-cycle b (moved-last b) → Stepped b g
-unfolding moved-last settle-move
+step-ends-move : (b : Box) (g : Ghosts) → Inv b g → b .state .phase ≡ 5 → b .state .size < b .state .index → after b ≡ b .state .top → step b ≡ end-cycle b (moved-last-box b) → Stepped b g
 step-ends-move b g v p i e s =
-    let n : Next b g (at-rest (moved-last b)) = ends-move b g v p i e in
-    ends (moved-last b) s n (omega arith) (search) refl (sweep-spared b g v (at-rest (moved-last b)) n (omega arith))
+    let n : Next b g (at-rest (moved-last-box b)) = ends-move b g v p i e in
+    ends (moved-last-box b) s n (omega arith) (search) refl (sweep-spared b g v (at-rest (moved-last-box b)) n (omega arith))
 
 -- ---- 6 and 7
 
-step-clears : (b : Box) (g : Ghosts) → Inv b g → b .state .phase ≡ 6 → step b ≡ going (cleared b) → Stepped b g
-unfolding cleared
+step-clears : (b : Box) (g : Ghosts) → Inv b g → b .state .phase ≡ 6 → step b ≡ going (cleared-box b) → Stepped b g
 step-clears b g v p s =
-    let c : Box = cleared b in
+    let c : Box = cleared-box b in
     let n : Next b g c = clears b g v p in
     goes b g v c s n (search) (sweeps-track b g v c n (omega arith) (omega arith) refl)
 
@@ -351,11 +328,10 @@ step-zero-on b g v p i e s =
     let n : Next b g c = zero-on b g v p i e in
     goes b g v c s n (search) (sweeps-track b g v c n (omega arith) (omega arith) refl)
 
-step-zero-ends : (b : Box) (g : Ghosts) → Inv b g → b .state .phase ≡ 8 → b .state .size < b .state .index → after b ≡ b .state .top → step b ≡ end-cycle b (zeroed-last b) → Stepped b g
-unfolding zeroed-last
+step-zero-ends : (b : Box) (g : Ghosts) → Inv b g → b .state .phase ≡ 8 → b .state .size < b .state .index → after b ≡ b .state .top → step b ≡ end-cycle b (zeroed-last-box b) → Stepped b g
 step-zero-ends b g v p i e s =
-    let n : Next b g (at-rest (zeroed-last b)) = ended-next b g (zeroed-last b) (zero-ends b g v p i e) in
-    ends (zeroed-last b) s n (omega arith) (search) refl (sweep-spared b g v (at-rest (zeroed-last b)) n (omega arith))
+    let n : Next b g (at-rest (zeroed-last-box b)) = ended-next b g (zeroed-last-box b) (zero-ends b g v p i e) in
+    ends (zeroed-last-box b) s n (omega arith) (search) refl (sweep-spared b g v (at-rest (zeroed-last-box b)) n (omega arith))
 
 -- ---- any step
 

@@ -17,11 +17,11 @@ use Rattle.history.specs.Agreement.{Member}
 use Rattle.history.proofs.Invariant.Statement.{Ghosts, Inv, Move}
 use Rattle.history.proofs.Lists.Handles.{parts, member-differs}
 use Rattle.history.proofs.Left.Count.{left}
-use Rattle.history.proofs.Left.Falls.{SamePlace}
 use Rattle.history.proofs.Left.Marks.{Listing, unlisted, listed-first, ShadedBox, left-takes-next, left-shades-root, left-begins-sweep, left-scan-ends, left-takes-current, left-adds-marked, left-adds-unmarked}
 use Rattle.history.proofs.Left.Sweeps.{left-moves-on, left-clears, left-writes, left-zeroes, left-zero-on}
 use Rattle.history.proofs.Invariant.Words.{put-other}
 use Rattle.history.proofs.Invariant.Stages.{unswept-of, kept-ahead, adding-of, at-read, at-clear, at-write}
+use Rattle.history.proofs.Marking.Shade.{SameNumbers, shade-numbers}
 
 -- ---- 1
 
@@ -51,23 +51,11 @@ shade-box h b f = go (deep h b) refl
           current-is = simp (f, e);
         }
 
-record ShadeNumbers (b c : Box) : Type 0 where
-  phase-is : c .state .phase ≡ b .state .phase
-  place : SamePlace b c
-
-shade-numbers : (h : ℕ) (b : Box) → marked h b ≡ false → ShadeNumbers b (shade h b)
-unfolding shade list-next mark-live
-shade-numbers h b f = go (deep h b) refl
-  where
-    go : (t : Bool) → deep h b ≡ t → ShadeNumbers b (shade h b)
-    go true e = record { phase-is = simp (f, e); place = record { size = simp (f, e); index = simp (f, e) } }
-    go false e = record { phase-is = simp (f, e); place = record { size = simp (f, e); index = simp (f, e) } }
-
 pub fewer-shades-root : (b : Box) (g g′ : Ghosts) → Inv b g → b .state .phase ≡ 1 → (r : ℕ) → r < register-count → names-tuple (register r b) ≡ true
     → marked (handle-of (register r b)) b ≡ false → Inv (shade (handle-of (register r b)) b) g′ → left (shade (handle-of (register r b)) b) g′ < left b g
 fewer-shades-root b g g′ v p r l n f w =
     let h : ℕ = handle-of (register r b) in
-    left-shades-root b g (shade h b) g′ h v w p (shade-numbers h b f .phase-is ∙ p) (shade-box h b f)
+    left-shades-root b g (shade h b) g′ h v w p (shade-numbers h b .phase-is ∙ p) (shade-box h b f)
     (kept-ahead b g h (unswept-of b g (v .stage) (omega arith)) (v .contents .roots-kept r l n)) f
 
 pub fewer-begins-sweep : (b : Box) (g g′ : Ghosts) → Inv b g → b .state .phase ≡ 1 → Inv (begin-sweep b) g′ → left (begin-sweep b) g′ < left b g
@@ -106,11 +94,11 @@ phase-shaded b c h p s =
 pub fewer-adds-unmarked : (b : Box) (g g′ : Ghosts) → Inv b g → b .state .phase ≡ 3 → marked (b .state .tuple) b ≡ false
     → Inv (to-phase 2 (shade (b .state .tuple) b)) g′ → left (to-phase 2 (shade (b .state .tuple) b)) g′ < left b g
 fewer-adds-unmarked b g g′ v p f w =
-    let n : ShadeNumbers b (shade (b .state .tuple) b) = shade-numbers (b .state .tuple) b f in
+    let n : SameNumbers b (shade (b .state .tuple) b) = shade-numbers (b .state .tuple) b in
     left-adds-unmarked b g (to-phase 2 (shade (b .state .tuple) b)) g′ (b .state .tuple) v w p refl
     (phase-shaded b (shade (b .state .tuple) b) (b .state .tuple) 2 (shade-box (b .state .tuple) b f))
     (adding-of b g (v .stage) p .tuple-ahead) f
-    (record { size = n .place .size; index = n .place .index })
+    (record { size = n .size-is; index = n .index-is })
 
 -- ---- 5
 

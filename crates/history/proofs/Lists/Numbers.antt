@@ -111,12 +111,12 @@ unfoldable pub minus : List ℕ → List ℕ → List ℕ
 minus xs [] = xs
 minus xs (y ∷ ys) = minus (remove y xs) ys
 
-abbrev pub Within : List ℕ → List ℕ → Type 0
-Within ys xs = (x : ℕ) → Member x ys → Member x xs
+abbrev pub Sublist : List ℕ → List ℕ → Type 0
+Sublist ys xs = (x : ℕ) → Member x ys → Member x xs
 
 -- the rest of ys is within what is left
-within-rest : (y : ℕ) (ys xs : List ℕ) → Distinct (y ∷ ys) → Within (y ∷ ys) xs → Within ys (remove y xs)
-within-rest y ys xs d w x m = remove-other y x xs (λ e. d .0 (subst (λ (z : ℕ). Member z ys) e m)) (w x (inr m))
+sublist-rest : (y : ℕ) (ys xs : List ℕ) → Distinct (y ∷ ys) → Sublist (y ∷ ys) xs → Sublist ys (remove y xs)
+sublist-rest y ys xs d w x m = remove-other y x xs (λ e. d .0 (subst (λ (z : ℕ). Member z ys) e m)) (w x (inr m))
 
 pub minus-distinct : (xs ys : List ℕ) → Distinct xs → Distinct (minus xs ys)
 unfolding minus
@@ -139,22 +139,22 @@ unfolding minus
 minus-in xs [] z m n = m
 minus-in xs (y ∷ ys) z m n = minus-in (remove y xs) ys z (remove-other y z xs (λ e. n (inl e)) m) (λ x. n (inr x))
 
-pub minus-room : (xs ys : List ℕ) (t : History) → Distinct ys → Within ys xs → room xs t ≡ room ys t + room (minus xs ys) t
+pub minus-room : (xs ys : List ℕ) (t : History) → Distinct ys → Sublist ys xs → room xs t ≡ room ys t + room (minus xs ys) t
 unfolding minus room
 minus-room xs [] t d w = omega arith
 minus-room xs (y ∷ ys) t d w =
     let e : room xs t ≡ size-at y t + 1 + room (remove y xs) t = remove-room y xs t (w y (inl refl)) in
-    let f : room (remove y xs) t ≡ room ys t + room (minus (remove y xs) ys) t = minus-room (remove y xs) ys t (d .1) (within-rest y ys xs d w) in
+    let f : room (remove y xs) t ≡ room ys t + room (minus (remove y xs) ys) t = minus-room (remove y xs) ys t (d .1) (sublist-rest y ys xs d w) in
     omega arith
 
-pub within-room : (xs ys : List ℕ) (t : History) → Distinct ys → Within ys xs → room ys t ≤ room xs t
-within-room xs ys t d w = let e : room xs t ≡ room ys t + room (minus xs ys) t = minus-room xs ys t d w in omega arith
+pub sublist-room : (xs ys : List ℕ) (t : History) → Distinct ys → Sublist ys xs → room ys t ≤ room xs t
+sublist-room xs ys t d w = let e : room xs t ≡ room ys t + room (minus xs ys) t = minus-room xs ys t d w in omega arith
 
-pub within-length : (xs ys : List ℕ) → Distinct ys → Within ys xs → length ys ≤ length xs
-within-length xs [] d w = zero-le
-within-length xs (y ∷ ys) d w =
+pub sublist-length : (xs ys : List ℕ) → Distinct ys → Sublist ys xs → length ys ≤ length xs
+sublist-length xs [] d w = zero-le
+sublist-length xs (y ∷ ys) d w =
     let e : length xs ≡ suc (length (remove y xs)) = remove-length y xs (w y (inl refl)) in
-    let l : length ys ≤ length (remove y xs) = within-length (remove y xs) ys (d .1) (within-rest y ys xs d w) in
+    let l : length ys ≤ length (remove y xs) = sublist-length (remove y xs) ys (d .1) (sublist-rest y ys xs d w) in
     omega arith
 
 -- ---- the numbers from 1 to n

@@ -144,11 +144,11 @@ pub record Removed (h : ℕ) (ys : List ℕ) : Type 0 where
   pub others : List ℕ
   pub order : Perm ys (h ∷ others)
 
-pub remove : (h : ℕ) (ys : List ℕ) → Member h ys → Removed h ys
-remove h [] m = absurd m
-remove h (y ∷ ys) (inl e) = record { others = ys; order = subst (λ (n : ℕ). Perm (y ∷ ys) (n ∷ ys)) (sym e) (perm-refl (y ∷ ys)) }
-remove h (y ∷ ys) (inr m) =
-    let r : Removed h ys = remove h ys m in
+pub take-out : (h : ℕ) (ys : List ℕ) → Member h ys → Removed h ys
+take-out h [] m = absurd m
+take-out h (y ∷ ys) (inl e) = record { others = ys; order = subst (λ (n : ℕ). Perm (y ∷ ys) (n ∷ ys)) (sym e) (perm-refl (y ∷ ys)) }
+take-out h (y ∷ ys) (inr m) =
+    let r : Removed h ys = take-out h ys m in
     record { others = y ∷ r .others; order = perm-trans (perm-cons (r .order)) perm-swap }
 
 -- what is among all of them, but is not the one removed, is among the others
@@ -165,7 +165,7 @@ pub total-marked-members : (k c : ℕ) (b : Box) (xs ys : List ℕ) → Distinct
 unfolding total
 total-marked-members k c b [] ys d among marks = omega (arith, unmarked-total-le k c b ys)
 total-marked-members k c b (x ∷ xs) ys d among marks =
-    let r : Removed x ys = remove x ys (among x (inl refl)) in
+    let r : Removed x ys = take-out x ys (among x (inl refl)) in
     omega (
       arith,
       total-perm k c b (r .order),

@@ -14,7 +14,7 @@ use Rattle.history.proofs.Lists.Handles.{member-left, member-right, per
 use Rattle.history.proofs.Lists.Chain.{chain-empty, chain-none}
 use Rattle.history.proofs.Lists.Laid.{Front, laid-front, laid-from, laid-none}
 use Rattle.history.proofs.Invariant.Frame.{handles-moved, marks-same, Calm}
-use Rattle.history.proofs.Invariant.Resting.{resting-plan, resting, Finished, finished}
+use Rattle.history.proofs.Invariant.Resting.{resting-plan, resting, Finished, finished, none-kept}
 use Rattle.history.proofs.Invariant.Stages.{Finds, finds-of, kept-ahead, ahead-entry}
 use Rattle.history.proofs.Marking.Alike.{Alike, alike-state, register-alike, word-alike, shape-alike, handles-alike, layout-alike, zero-unswept, kept-alike, Onward}
 use Rattle.history.proofs.Marking.Start.{listed-none}
@@ -107,13 +107,6 @@ none-handles b g i u t = handles-moved b b (g .plan) (resting-plan []) (g .free)
   where
     same : all (g .plan) (g .free) ≡ g .free
     same = rw (u .no-done, u .no-mid, none-ahead b g i u t)
-
--- and nothing is kept
-none-kept : (b : Box) (h : ℕ) → Kept b (resting-plan []) h → ⊥
-none-kept b h (settled x) = x
-none-kept b h (moving x) = x
-none-kept b h (unswept x l) = x
-none-kept b h (surviving x t) = x
 
 none-contents : (b : Box) (g : Ghosts) → Inv b g → Unswept g → b .state .top ≡ 0 → Contents (at-rest b) (resting-plan [])
 unfolding at-rest

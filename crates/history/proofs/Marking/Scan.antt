@@ -9,8 +9,7 @@ use mathlib.Core.Path.{_≡_, refl, sym, _∙_, ap, subst}
 use native.Mathlib.Omega.{arith}
 use native.Mathlib.Decide.{ℕ-discrete}
 use lib.ListN.{getD}
-use Rattle.memory.specs.State.{with-phase, with-tuple, with-index}
-use Rattle.memory.specs.Box.{Box, Word, handle-of, names-tuple, with-state, word-at, address, marked}
+use Rattle.memory.specs.Box.{Box, Word, handle-of, names-tuple, word-at, address, marked}
 use Rattle.memory.specs.Place.{shade}
 use Rattle.memory.specs.Collector.{to-phase, scan}
 use Rattle.history.specs.Agreement.{Member, Distinct}
@@ -21,7 +20,8 @@ use Rattle.history.proofs.Lists.Chain.{chain-head, chain-empty}
 use Rattle.history.proofs.Invariant.Frame.{Next}
 use Rattle.history.proofs.Invariant.Stages.{Scanning, scanning-of, Adding, adding-of, kept-ahead, ahead-entry}
 use Rattle.history.proofs.Marking.Alike.{Alike, alike-state, word-alike, Black, Relisted, with-scans, unswept-scans, Onward, onward-next, onward-alike, relists}
-use Rattle.history.proofs.Marking.Shade.{shade-alike, shade-steady, shade-mark, shade-scans, shade-inv}
+use Rattle.history.proofs.Marking.Shade.{shade-alike, shade-numbers, shade-mark, shade-scans, shade-inv}
+use Rattle.history.proofs.View.Boxes.{scanned-data-box, scanned-pointer-box}
 
 -- ---- the tuple under the scan
 
@@ -60,17 +60,14 @@ relisted-same b g c i ln mk lv nx cr = record { links-are = ln; marks-are = mk; 
 
 -- ---- 2 Mark scan
 
-abbrev pub data-passed : Box → Box
-data-passed b = with-state (with-index (b .state .index + 1) (b .state)) b
-
 pub scans-data-onward : (b : Box) (g : Ghosts) → Inv b g → b .state .phase ≡ 2 → b .state .index ≤ b .state .size → names-tuple (word-at (b .state .src + b .state .index) b) ≡ false
-    → Onward b g (data-passed b) (g .scans)
+    → Onward b g (scanned-data-box b) (g .scans)
 scans-data-onward b g i e l n =
     relists b g c (g .scans) i alike (omega arith) (omega arith) (relisted-same b g c i refl refl refl refl refl)
     (scanning e (unswept-scans g (g .scans) (f .unswept-yet)) x (record { gray-is = s .gray-is; src-is = s .src-is; size-is = s .size-is; index-least = omega arith; index-most = omega arith }) seen)
   where
     c : Box
-    c = data-passed b
+    c = scanned-data-box b
 
     alike : Alike b c
     alike = alike-state b (c .state) refl refl refl refl refl refl refl refl
@@ -87,14 +84,11 @@ scans-data-onward b g i e l n =
     seen : (k : ℕ) → k + 1 < b .state .index + 1 → names-tuple (word x (k + 1) c) ≡ true → marked (handle-of (word x (k + 1) c)) b ≡ true
     seen k u = subst (λ (w : Word). Names (λ y. marked y b ≡ true) w) (sym (word-alike b c alike (omega arith) (omega arith) x (k + 1))) (seen-more b g x (λ y. marked y b ≡ true) s (omega arith) (f .seen) (λ t. absurd (false≢true (sym n ∙ t))) k u)
 
-pub scans-data : (b : Box) (g : Ghosts) → Inv b g → b .state .phase ≡ 2 → b .state .index ≤ b .state .size → names-tuple (word-at (b .state .src + b .state .index) b) ≡ false → Next b g (data-passed b)
-scans-data b g i e l n = onward-next b g (data-passed b) (g .scans) (scans-data-onward b g i e l n)
-
-abbrev pub pointer-met : Box → Box
-pointer-met b = with-state (with-index (b .state .index + 1) (with-tuple (handle-of (word-at (b .state .src + b .state .index) b)) (with-phase 3 (b .state)))) b
+pub scans-data : (b : Box) (g : Ghosts) → Inv b g → b .state .phase ≡ 2 → b .state .index ≤ b .state .size → names-tuple (word-at (b .state .src + b .state .index) b) ≡ false → Next b g (scanned-data-box b)
+scans-data b g i e l n = onward-next b g (scanned-data-box b) (g .scans) (scans-data-onward b g i e l n)
 
 pub scans-pointer-onward : (b : Box) (g : Ghosts) → Inv b g → b .state .phase ≡ 2 → b .state .index ≤ b .state .size → names-tuple (word-at (b .state .src + b .state .index) b) ≡ true
-    → Onward b g (pointer-met b) (g .scans)
+    → Onward b g (scanned-pointer-box b) (g .scans)
 scans-pointer-onward b g i e l n =
     relists b g c (g .scans) i alike (omega arith) (omega arith) (relisted-same b g c i refl refl refl refl refl)
     (adding refl (unswept-scans g (g .scans) (f .unswept-yet)) x (record { gray-is = s .gray-is; src-is = s .src-is; size-is = s .size-is; index-least = omega arith; index-most = omega arith }) there seen)
@@ -103,7 +97,7 @@ scans-pointer-onward b g i e l n =
     y = handle-of (word-at (b .state .src + b .state .index) b)
 
     c : Box
-    c = pointer-met b
+    c = scanned-pointer-box b
 
     alike : Alike b c
     alike = alike-state b (c .state) refl refl refl refl refl refl refl refl
@@ -133,8 +127,8 @@ scans-pointer-onward b g i e l n =
     seen : (k : ℕ) → k + 1 < b .state .index + 1 → names-tuple (word x (k + 1) c) ≡ true → (marked (handle-of (word x (k + 1) c)) b ≡ true) ⊎ (handle-of (word x (k + 1) c) ≡ y)
     seen k u = subst (λ (v : Word). Names (λ z. (marked z b ≡ true) ⊎ (z ≡ y)) v) (sym (word-alike b c alike (omega arith) (omega arith) x (k + 1))) (seen-more b g x (λ z. (marked z b ≡ true) ⊎ (z ≡ y)) s (omega arith) (λ j v t. inl (f .seen j v t)) (λ t. inr refl) k u)
 
-pub scans-pointer : (b : Box) (g : Ghosts) → Inv b g → b .state .phase ≡ 2 → b .state .index ≤ b .state .size → names-tuple (word-at (b .state .src + b .state .index) b) ≡ true → Next b g (pointer-met b)
-scans-pointer b g i e l n = onward-next b g (pointer-met b) (g .scans) (scans-pointer-onward b g i e l n)
+pub scans-pointer : (b : Box) (g : Ghosts) → Inv b g → b .state .phase ≡ 2 → b .state .index ≤ b .state .size → names-tuple (word-at (b .state .src + b .state .index) b) ≡ true → Next b g (scanned-pointer-box b)
+scans-pointer b g i e l n = onward-next b g (scanned-pointer-box b) (g .scans) (scans-pointer-onward b g i e l n)
 
 -- a tuple scanned to its end
 scanned-black : (b : Box) (g : Ghosts) (f : Scanning b g) → b .state .size < b .state .index → Black b (f .scanned)
@@ -253,7 +247,7 @@ adds-onward b g i e =
     let s : Scans = shade-scans y b (g .scans) in
     let f : Adding b g = adding-of b g (i .stage) e in
     let t : marked y (shade y b) ≡ true = shade-mark y b (i .shape) (ahead-entry b (g .plan) (g .free) y (i .handles) (f .tuple-ahead) .1) in
-    let o : Onward (shade y b) (with-scans s g) (to-phase 2 (shade y b)) s = adds-marked-onward (shade y b) (with-scans s g) (shade-inv y b g i (f .tuple-ahead) (omega arith) (omega arith)) (shade-steady y b .phase-is ∙ e) (subst (λ (z : ℕ). marked z (shade y b) ≡ true) (sym (shade-steady y b .tuple-is)) t) in
+    let o : Onward (shade y b) (with-scans s g) (to-phase 2 (shade y b)) s = adds-marked-onward (shade y b) (with-scans s g) (shade-inv y b g i (f .tuple-ahead) (omega arith) (omega arith)) (shade-numbers y b .phase-is ∙ e) (subst (λ (z : ℕ). marked z (shade y b) ≡ true) (sym (shade-numbers y b .tuple-is)) t) in
     onward-alike b g (to-phase 2 (shade y b)) s (alike-phase b (shade y b) 2 (shade-alike y b)) (omega arith) (omega arith) (o .inv)
 
 pub adds-unmarked : (b : Box) (g : Ghosts) → Inv b g → b .state .phase ≡ 3 → marked (b .state .tuple) b ≡ false → Next b g (to-phase 2 (shade (b .state .tuple) b))

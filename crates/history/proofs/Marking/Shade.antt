@@ -31,30 +31,30 @@ push h s = record { nexts = h ∷ s .nexts; currents = s .currents; gray = s .gr
 unfoldable pub shade-scans : ℕ → Box → Scans → Scans
 shade-scans h b s = cond (marked h b) s (cond (deep h b) (push h s) s)
 
-data Shaded (h : ℕ) (b : Box) (s : Scans) : Box → Scans → Type 0 where
-  already : marked h b ≡ true → Shaded h b s b s
-  listing : marked h b ≡ false → deep h b ≡ true → Shaded h b s (list-next h (mark-live h b)) (push h s)
-  counting : marked h b ≡ false → deep h b ≡ false → Shaded h b s (mark-live h b) s
+data ShadeCase (h : ℕ) (b : Box) (s : Scans) : Box → Scans → Type 0 where
+  already : marked h b ≡ true → ShadeCase h b s b s
+  listing : marked h b ≡ false → deep h b ≡ true → ShadeCase h b s (list-next h (mark-live h b)) (push h s)
+  counting : marked h b ≡ false → deep h b ≡ false → ShadeCase h b s (mark-live h b) s
 
-shaded : (h : ℕ) (b : Box) (s : Scans) → Shaded h b s (shade h b) (shade-scans h b s)
+shaded : (h : ℕ) (b : Box) (s : Scans) → ShadeCase h b s (shade h b) (shade-scans h b s)
 unfolding shade shade-scans
 shaded h b s = go (marked h b) (deep h b) refl refl
   where
-    go : (t d : Bool) → marked h b ≡ t → deep h b ≡ d → Shaded h b s (cond (marked h b) b (cond (deep h b) (list-next h (mark-live h b)) (mark-live h b))) (cond (marked h b) s (cond (deep h b) (push h s) s))
+    go : (t d : Bool) → marked h b ≡ t → deep h b ≡ d → ShadeCase h b s (cond (marked h b) b (cond (deep h b) (list-next h (mark-live h b)) (mark-live h b))) (cond (marked h b) s (cond (deep h b) (push h s) s))
     go true d e f = rw e (already e)
     go false true e f = rw (e, f) (listing e f)
     go false false e f = rw (e, f) (counting e f)
 
 -- ---- what it leaves alone
 
-shaded-alike : {h : ℕ} {b : Box} {s : Scans} {c : Box} {s′ : Scans} → Shaded h b s c s′ → Alike b c
+shaded-alike : {h : ℕ} {b : Box} {s : Scans} {c : Box} {s′ : Scans} → ShadeCase h b s c s′ → Alike b c
 unfolding list-next mark-live
 shaded-alike (already e) = record { words-are = refl; flags-are = refl; addresses-are = refl; sizes-are = refl; deeps-are = refl; links-length = refl; marks-length = refl; m-is = refl; h-is = refl; registers-are = refl; register-flags-are = refl; top-is = refl; free-is = refl; held-is = refl; hold-is = refl }
 shaded-alike {h} {b} (listing e f) = record { words-are = refl; flags-are = refl; addresses-are = refl; sizes-are = refl; deeps-are = refl; links-length = length-set (b .links) h (b .state .next); marks-length = length-set (b .marks) h true; m-is = refl; h-is = refl; registers-are = refl; register-flags-are = refl; top-is = refl; free-is = refl; held-is = refl; hold-is = refl }
 shaded-alike {h} {b} (counting e f) = record { words-are = refl; flags-are = refl; addresses-are = refl; sizes-are = refl; deeps-are = refl; links-length = refl; marks-length = length-set (b .marks) h true; m-is = refl; h-is = refl; registers-are = refl; register-flags-are = refl; top-is = refl; free-is = refl; held-is = refl; hold-is = refl }
 
 -- the collector's numbers, but for live and next
-pub record Steady (b c : Box) : Type 0 where
+pub record SameNumbers (b c : Box) : Type 0 where
   pub phase-is : c .state .phase ≡ b .state .phase
   pub current-is : c .state .current ≡ b .state .current
   pub src-is : c .state .src ≡ b .state .src
@@ -63,11 +63,11 @@ pub record Steady (b c : Box) : Type 0 where
   pub size-is : c .state .size ≡ b .state .size
   pub index-is : c .state .index ≡ b .state .index
 
-shaded-steady : {h : ℕ} {b : Box} {s : Scans} {c : Box} {s′ : Scans} → Shaded h b s c s′ → Steady b c
+shaded-numbers : {h : ℕ} {b : Box} {s : Scans} {c : Box} {s′ : Scans} → ShadeCase h b s c s′ → SameNumbers b c
 unfolding list-next mark-live
-shaded-steady (already e) = record { phase-is = refl; current-is = refl; src-is = refl; dest-is = refl; tuple-is = refl; size-is = refl; index-is = refl }
-shaded-steady (listing e f) = record { phase-is = refl; current-is = refl; src-is = refl; dest-is = refl; tuple-is = refl; size-is = refl; index-is = refl }
-shaded-steady (counting e f) = record { phase-is = refl; current-is = refl; src-is = refl; dest-is = refl; tuple-is = refl; size-is = refl; index-is = refl }
+shaded-numbers (already e) = record { phase-is = refl; current-is = refl; src-is = refl; dest-is = refl; tuple-is = refl; size-is = refl; index-is = refl }
+shaded-numbers (listing e f) = record { phase-is = refl; current-is = refl; src-is = refl; dest-is = refl; tuple-is = refl; size-is = refl; index-is = refl }
+shaded-numbers (counting e f) = record { phase-is = refl; current-is = refl; src-is = refl; dest-is = refl; tuple-is = refl; size-is = refl; index-is = refl }
 
 -- ---- the marks and the links
 
@@ -82,33 +82,33 @@ set-mark-keeps b h k l t = go (ℕ-discrete k h)
     go (yes e) = subst (λ (n : ℕ). getD (set (b .marks) h true) n false ≡ true) (sym e) (set-mark-true b h l)
     go (no n) = getD-set-other (b .marks) h k true false n ∙ t
 
-shaded-mark : {h : ℕ} {b : Box} {s : Scans} {c : Box} {s′ : Scans} → Shaded h b s c s′ → h < length (b .marks) → marked h c ≡ true
+shaded-mark : {h : ℕ} {b : Box} {s : Scans} {c : Box} {s′ : Scans} → ShadeCase h b s c s′ → h < length (b .marks) → marked h c ≡ true
 unfolding list-next mark-live
 shaded-mark (already e) l = e
 shaded-mark {h} {b} (listing e f) l = set-mark-true b h l
 shaded-mark {h} {b} (counting e f) l = set-mark-true b h l
 
-shaded-keeps : {h : ℕ} {b : Box} {s : Scans} {c : Box} {s′ : Scans} → Shaded h b s c s′ → h < length (b .marks) → (k : ℕ) → marked k b ≡ true → marked k c ≡ true
+shaded-keeps : {h : ℕ} {b : Box} {s : Scans} {c : Box} {s′ : Scans} → ShadeCase h b s c s′ → h < length (b .marks) → (k : ℕ) → marked k b ≡ true → marked k c ≡ true
 unfolding list-next mark-live
 shaded-keeps (already e) l k t = t
 shaded-keeps {h} {b} (listing e f) l k t = set-mark-keeps b h k l t
 shaded-keeps {h} {b} (counting e f) l k t = set-mark-keeps b h k l t
 
-shaded-others : {h : ℕ} {b : Box} {s : Scans} {c : Box} {s′ : Scans} → Shaded h b s c s′ → (k : ℕ) → k ≢ h → marked k c ≡ marked k b
+shaded-others : {h : ℕ} {b : Box} {s : Scans} {c : Box} {s′ : Scans} → ShadeCase h b s c s′ → (k : ℕ) → k ≢ h → marked k c ≡ marked k b
 unfolding list-next mark-live
 shaded-others (already e) k n = refl
 shaded-others {h} {b} (listing e f) k n = getD-set-other (b .marks) h k true false n
 shaded-others {h} {b} (counting e f) k n = getD-set-other (b .marks) h k true false n
 
 -- a list that h is not on
-shaded-chain : {h : ℕ} {b : Box} {s : Scans} {c : Box} {s′ : Scans} → Shaded h b s c s′ → (head : ℕ) (hs : List ℕ) → ¬ Member h hs → Chain (b .links) head hs → Chain (c .links) head hs
+shaded-chain : {h : ℕ} {b : Box} {s : Scans} {c : Box} {s′ : Scans} → ShadeCase h b s c s′ → (head : ℕ) (hs : List ℕ) → ¬ Member h hs → Chain (b .links) head hs → Chain (c .links) head hs
 unfolding list-next mark-live
 shaded-chain (already e) head hs n ch = ch
 shaded-chain {h} {b} (listing e f) head hs n ch = chain-set-other (b .links) head hs h (b .state .next) n ch
 shaded-chain (counting e f) head hs n ch = ch
 
 -- the tuples that waited wait still
-shaded-waits : {h : ℕ} {b : Box} {s : Scans} {c : Box} {s′ : Scans} → Shaded h b s c s′ → (k : ℕ) → Member k (listed s) → Member k (listed s′)
+shaded-waits : {h : ℕ} {b : Box} {s : Scans} {c : Box} {s′ : Scans} → ShadeCase h b s c s′ → (k : ℕ) → Member k (listed s) → Member k (listed s′)
 shaded-waits (already e) k x = x
 shaded-waits {h} {b} {s} (listing e f) k x = perm-member (perm-sym (perm-shift h (s .gray) (s .nexts ++ s .currents))) k (inr x)
 shaded-waits (counting e f) k x = x
@@ -118,7 +118,7 @@ shaded-waits (counting e f) k x = x
 -- what the two cases of an unmarked tuple have in common
 marks-shaded : (h : ℕ) (b : Box) (p : Plan) (free : List ℕ) (s : Scans) (c : Box) (s′ : Scans)
     → Handles b p free → Member h (p .ahead) → h < length (b .marks) → b .state .phase ≤ 3 → c .state .phase ≤ 3
-    → Shaded h b s c s′ → marked h b ≡ false → c .state .live ≡ b .state .live + size-of h b + 1
+    → ShadeCase h b s c s′ → marked h b ≡ false → c .state .live ≡ b .state .live + size-of h b + 1
     → Chain (c .links) (c .state .next) (s′ .nexts) → Chain (c .links) (c .state .current) (s′ .currents) → Distinct (listed s′)
     → ((k : ℕ) → Member k (listed s′) → ((k ≡ h) × (deep h b ≡ true)) ⊎ Member k (listed s)) → (¬ Member h (listed s′) → Black b h)
     → Marks b p free s → Marks c p free s′
@@ -173,7 +173,7 @@ unlisted-yet h b p free s i u m = false≢true (sym u ∙ i .listed-marked h m)
 flat-black : (h : ℕ) (b : Box) (p : Plan) → Contents b p → Kept b p h → deep h b ≡ false → Black b h
 flat-black h b p i x f k l n = absurd (false≢true (sym f ∙ i .words-kept h x k l n .1))
 
-shaded-marks : {h : ℕ} {b : Box} {s : Scans} {c : Box} {s′ : Scans} (p : Plan) (free : List ℕ) → Shaded h b s c s′
+shaded-marks : {h : ℕ} {b : Box} {s : Scans} {c : Box} {s′ : Scans} (p : Plan) (free : List ℕ) → ShadeCase h b s c s′
     → Shape b → Handles b p free → Contents b p → Member h (p .ahead) → h < b .state .h → b .state .phase ≤ 3 → Marks b p free s → Marks c p free s′
 unfolding list-next mark-live
 shaded-marks p free (already e) sp hd ct x l v i = i
@@ -199,28 +199,28 @@ shaded-marks {h} {b} {s} p free (counting e f) sp hd ct x l v i =
 
 -- ---- the stage
 
-shaded-gray : {h : ℕ} {b : Box} {s : Scans} {c : Box} {s′ : Scans} → Shaded h b s c s′ → s′ .gray ≡ s .gray
+shaded-gray : {h : ℕ} {b : Box} {s : Scans} {c : Box} {s′ : Scans} → ShadeCase h b s c s′ → s′ .gray ≡ s .gray
 shaded-gray (already e) = refl
 shaded-gray (listing e f) = refl
 shaded-gray (counting e f) = refl
 
-shaded-currents : {h : ℕ} {b : Box} {s : Scans} {c : Box} {s′ : Scans} → Shaded h b s c s′ → s′ .currents ≡ s .currents
+shaded-currents : {h : ℕ} {b : Box} {s : Scans} {c : Box} {s′ : Scans} → ShadeCase h b s c s′ → s′ .currents ≡ s .currents
 shaded-currents (already e) = refl
 shaded-currents (listing e f) = refl
 shaded-currents (counting e f) = refl
 
 -- what is said of the tuple under the scan, at any phase of the box after it
-scan-steady : (b : Box) (g : Ghosts) (c : Box) (s : Scans) (x : ℕ) → Alike b c → Steady b c → s .gray ≡ g .scans .gray → Scan b g x → Scan c (with-scans s g) x
-scan-steady b g c s x a k e i = record { gray-is = e ∙ i .gray-is; src-is = address-alike b c a x ∙ i .src-is ∙ sym (k .src-is); size-is = size-alike b c a x ∙ i .size-is ∙ sym (k .size-is); index-least = rw (k .index-is) (i .index-least); index-most = rw (k .index-is, k .size-is) (i .index-most) }
+scan-numbers : (b : Box) (g : Ghosts) (c : Box) (s : Scans) (x : ℕ) → Alike b c → SameNumbers b c → s .gray ≡ g .scans .gray → Scan b g x → Scan c (with-scans s g) x
+scan-numbers b g c s x a k e i = record { gray-is = e ∙ i .gray-is; src-is = address-alike b c a x ∙ i .src-is ∙ sym (k .src-is); size-is = size-alike b c a x ∙ i .size-is ∙ sym (k .size-is); index-least = rw (k .index-is) (i .index-least); index-most = rw (k .index-is, k .size-is) (i .index-most) }
 
-shaded-stage : {h : ℕ} {b : Box} {c : Box} {s′ : Scans} (g : Ghosts) → Shaded h b (g .scans) c s′ → h < length (b .marks) → 1 ≤ b .state .phase → b .state .phase ≤ 3 → Stage b g → Stage c (with-scans s′ g)
+shaded-stage : {h : ℕ} {b : Box} {c : Box} {s′ : Scans} (g : Ghosts) → ShadeCase h b (g .scans) c s′ → h < length (b .marks) → 1 ≤ b .state .phase → b .state .phase ≤ 3 → Stage b g → Stage c (with-scans s′ g)
 shaded-stage {h} {b} {c} {s′} g sh l v w st = go st
   where
     a : Alike b c
     a = shaded-alike sh
 
-    k : Steady b c
-    k = shaded-steady sh
+    k : SameNumbers b c
+    k = shaded-numbers sh
 
     same : (x i : ℕ) → word x i c ≡ word x i b
     same x i = word-alike b c a (omega arith) (omega (arith, k .phase-is)) x i
@@ -240,8 +240,8 @@ shaded-stage {h} {b} {c} {s′} g sh l v w st = go st
     go : Stage b g → Stage c (with-scans s′ g)
     go (at-rest p u i m) = absurd (omega arith)
     go (finding p u i m) = finding (k .phase-is ∙ p) (unswept-scans g s′ u) (shaded-currents sh ∙ i) (shaded-gray sh ∙ m)
-    go (scanning p u x i f) = scanning (k .phase-is ∙ p) (unswept-scans g s′ u) x (scan-steady b g c s′ x a k (shaded-gray sh) i) (seen x f)
-    go (adding p u x i m f) = adding (k .phase-is ∙ p) (unswept-scans g s′ u) x (scan-steady b g c s′ x a k (shaded-gray sh) i) (subst (λ (y : ℕ). Member y (g .plan .ahead)) (sym (k .tuple-is)) m) (seen-yet x f)
+    go (scanning p u x i f) = scanning (k .phase-is ∙ p) (unswept-scans g s′ u) x (scan-numbers b g c s′ x a k (shaded-gray sh) i) (seen x f)
+    go (adding p u x i m f) = adding (k .phase-is ∙ p) (unswept-scans g s′ u) x (scan-numbers b g c s′ x a k (shaded-gray sh) i) (subst (λ (y : ℕ). Member y (g .plan .ahead)) (sym (k .tuple-is)) m) (seen-yet x f)
     go (sweeping p u m i x z hs f) = absurd (omega arith)
     go (reading p m i z) = absurd (omega arith)
     go (clearing p m i z) = absurd (omega arith)
@@ -253,8 +253,8 @@ shaded-stage {h} {b} {c} {s′} g sh l v w st = go st
 pub shade-alike : (h : ℕ) (b : Box) → Alike b (shade h b)
 shade-alike h b = shaded-alike (shaded h b none-wait)
 
-pub shade-steady : (h : ℕ) (b : Box) → Steady b (shade h b)
-shade-steady h b = shaded-steady (shaded h b none-wait)
+pub shade-numbers : (h : ℕ) (b : Box) → SameNumbers b (shade h b)
+shade-numbers h b = shaded-numbers (shaded h b none-wait)
 
 -- h is marked, marks stay, and no other is set
 pub shade-mark : (h : ℕ) (b : Box) → Shape b → h < b .state .h → marked h (shade h b) ≡ true
@@ -265,7 +265,7 @@ pub shade-free : (h : ℕ) (b : Box) (p : Plan) (free : List ℕ) → Handles b 
 shade-free h b p free i x = shaded-chain (shaded h b none-wait) (b .state .free) free (parts (p .done) (p .mid) (p .ahead) free (i .distinct) .ahead-free h x) (i .free-chain)
 
 pub shade-quiet : (h : ℕ) (b : Box) (p : Plan) → b .state .phase ≤ 3 → Quiet b p (shade h b) p
-shade-quiet h b p l = quiet-alike b (shade h b) p (shade-alike h b) l (rw (shade-steady h b .phase-is) l)
+shade-quiet h b p l = quiet-alike b (shade h b) p (shade-alike h b) l (rw (shade-numbers h b .phase-is) l)
 
 pub shade-marks : (h : ℕ) (b : Box) (p : Plan) (free : List ℕ) (s : Scans) → Shape b → Handles b p free → Contents b p → Member h (p .ahead) → b .state .phase ≤ 3 → Marks b p free s → Marks (shade h b) p free (shade-scans h b s)
 shade-marks h b p free s sp hd ct x l i = shaded-marks p free (shaded h b s) sp hd ct x (ahead-entry b p free h hd x .1) l i
@@ -276,6 +276,6 @@ shade-stage h b g sp l = shaded-stage g (shaded h b (g .scans)) (subst (λ (n : 
 -- all of it, in phase 1, 2 or 3
 pub shade-inv : (h : ℕ) (b : Box) (g : Ghosts) → Inv b g → Member h (g .plan .ahead) → 1 ≤ b .state .phase → b .state .phase ≤ 3 → Inv (shade h b) (with-scans (shade-scans h b (g .scans)) g)
 shade-inv h b g i x v w =
-    inv-alike b g (shade h b) (shade-scans h b (g .scans)) i (shade-alike h b) w (rw (shade-steady h b .phase-is) w) (shade-free h b (g .plan) (g .free) (i .handles) x)
+    inv-alike b g (shade h b) (shade-scans h b (g .scans)) i (shade-alike h b) w (rw (shade-numbers h b .phase-is) w) (shade-free h b (g .plan) (g .free) (i .handles) x)
     (shade-marks h b (g .plan) (g .free) (g .scans) (i .shape) (i .handles) (i .contents) x w (i .marks))
     (shade-stage h b g (i .shape) (ahead-entry b (g .plan) (g .free) h (i .handles) x .1) v w (i .stage))

@@ -2,14 +2,14 @@
 -- invariant. At rest nothing is marked, so live is 0 and no tuple waits; the next list moves whole to the tuple under the scan
 -- and the current list. Assumes nothing.
 use Prim.Native.Nat.{ℕ, _<_}
-use mathlib.Core.Bool.{Bool, true}
+use mathlib.Core.Bool.{true}
 use mathlib.Core.List.{List, [], _∷_, append-nil}
 use mathlib.Core.Logic.{_≢_}
 use mathlib.Core.Path.{_≡_, refl, sym, ap, subst}
 use native.Mathlib.Omega.{arith}
 use lib.ListN.{getD}
 use Rattle.memory.specs.Limits.{register-count}
-use Rattle.memory.specs.State.{with-phase, with-live, with-current, with-next, with-begun}
+use Rattle.memory.specs.State.{with-next}
 use Rattle.memory.specs.Box.{Box, handle-of, names-tuple, with-state, register}
 use Rattle.memory.specs.Place.{shade}
 use Rattle.memory.specs.Collector.{scan}
@@ -20,7 +20,8 @@ use Rattle.history.proofs.Lists.Laid.{marked-rooms-none}
 use Rattle.history.proofs.Invariant.Frame.{Next}
 use Rattle.history.proofs.Invariant.Stages.{Rests, rests-of, Finds, finds-of, kept-ahead}
 use Rattle.history.proofs.Marking.Alike.{alike-state, none-wait, unswept-scans, Onward, onward-next, onward-alike, relists}
-use Rattle.history.proofs.Marking.Shade.{shade-alike, shade-steady, shade-scans, shade-inv}
+use Rattle.history.proofs.Marking.Shade.{shade-alike, shade-numbers, shade-scans, shade-inv}
+use Rattle.history.proofs.View.Boxes.{rested-box}
 
 -- ---- 0 Rest
 
@@ -34,14 +35,10 @@ rest-live b g i r =
     let e : rooms b (g .plan .mid) ≡ 0 = ap (λ (hs : List ℕ). rooms b hs) (r .unswept-yet .no-mid) in
     omega (arith, i .marks .live-is, r .unswept-yet .low-zero, e, marked-rooms-none b (g .plan .ahead) (r .unmarked))
 
--- the box in which a cycle has begun; t is what its hold notes
-abbrev pub cycle-begun : Bool → Box → Box
-cycle-begun t b = with-state (with-live 0 (with-current 0 (with-next 0 (with-phase 1 (with-begun t (b .state)))))) b
-
-pub rests-with : (t : Bool) (b : Box) (g : Ghosts) → Inv b g → b .state .phase ≡ 0 → Onward b g (cycle-begun t b) none-wait
-rests-with t b g i e =
+pub rests : (b : Box) (g : Ghosts) → Inv b g → b .state .phase ≡ 0 → Onward b g (rested-box b) none-wait
+rests b g i e =
     let r : Rests b g = rests-of b g (i .stage) e in
-    relists b g (cycle-begun t b) none-wait i (alike-state b (cycle-begun t b .state) refl refl refl refl refl refl refl refl) (omega arith) (omega arith)
+    relists b g (rested-box b) none-wait i (alike-state b (rested-box b .state) refl refl refl refl refl refl refl refl) (omega arith) (omega arith)
     (record { links-are = refl; marks-are = refl; live-is = sym (rest-live b g i r); nexts-chain = refl; currents-chain = refl; distinct = tt; none-added = λ h x. absurd x; out-black = λ h x o. absurd (subst (λ (hs : List ℕ). Member h hs) (listed-none g (r .unlisted)) x) })
     (finding refl (unswept-scans g none-wait (r .unswept-yet)) refl refl)
 
@@ -81,7 +78,7 @@ takes-next b g i e n = let o = takes-next-onward b g i e n in onward-next b g (n
 pub shades-root-onward : (b : Box) (g : Ghosts) → Inv b g → b .state .phase ≡ 1 → (r : ℕ) → r < register-count → names-tuple (register r b) ≡ true → Onward b g (shade (handle-of (register r b)) b) (shade-scans (handle-of (register r b)) b (g .scans))
 shades-root-onward b g i e r l n =
     let h : ℕ = handle-of (register r b) in
-    onward-alike b g (shade h b) (shade-scans h b (g .scans)) (shade-alike h b) (omega arith) (omega (arith, shade-steady h b .phase-is))
+    onward-alike b g (shade h b) (shade-scans h b (g .scans)) (shade-alike h b) (omega arith) (omega (arith, shade-numbers h b .phase-is))
     (shade-inv h b g i (kept-ahead b g h (finds-of b g (i .stage) e .unswept-yet) (i .contents .roots-kept r l n)) (omega arith) (omega arith))
 
 pub shades-root : (b : Box) (g : Ghosts) → Inv b g → b .state .phase ≡ 1 → (r : ℕ) → r < register-count → names-tuple (register r b) ≡ true → Next b g (shade (handle-of (register r b)) b)

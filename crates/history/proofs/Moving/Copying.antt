@@ -3,63 +3,45 @@
 -- left behind is none that is claimed to be zero; otherwise it is 6. Assumes nothing.
 use Prim.Native.Nat.{ℕ, _+_, _≤_, _<_}
 use mathlib.Core.Path.{_≡_, refl, sym, ap, _∙_}
-use borrow.Author.Tests.{lt-ltb, le-ltb}
 use native.Mathlib.Omega.{arith}
 use Rattle.memory.specs.Box.{Box, word-at}
-use Rattle.memory.specs.Collector.{copy-word}
-use Rattle.history.proofs.Invariant.Statement.{Ghosts, Inv, Move, Stage, Zero, word, clearing, writing}
+use Rattle.history.proofs.Invariant.Statement.{Ghosts, Inv, Move, Zero, word, clearing, writing}
 use Rattle.history.proofs.Invariant.Words.{word-moved, word-copied, word-unmoved, word-unread}
 use Rattle.history.proofs.Invariant.Frame.{Next}
 use Rattle.history.proofs.Moving.Tuple.{Turn, earlier, now, later, turn}
-use Rattle.history.proofs.Moving.Within.{Within, zeroed-to, within}
+use Rattle.history.proofs.Moving.Within.{Within, within}
 use Rattle.history.proofs.Invariant.Stages.{AtRead, at-read}
+use Rattle.history.proofs.View.Boxes.{copied-box}
 
--- the box after the copy
-abbrev pub copied : Box → Box
-copied b = copy-word (b .state .src + b .state .index) b
-
-low-phase : (b : Box) → b .state .src + b .state .index < b .state .live → copied b .state .phase ≡ 7
-unfolding copy-word
-low-phase b l = simp (lt-ltb (b .state .src + b .state .index) (b .state .live) l)
-
-high-phase : (b : Box) → b .state .live ≤ b .state .src + b .state .index → copied b .state .phase ≡ 6
-unfolding copy-word
-high-phase b l = simp (le-ltb (b .state .src + b .state .index) (b .state .live) l)
-
-copies-words : (b : Box) (g : Ghosts) → Move b g → b .state .phase ≡ 5 → 6 ≤ copied b .state .phase → copied b .state .phase ≤ 7 → (i : ℕ) → word (b .state .tuple) i (copied b) ≡ word (b .state .tuple) i b
-unfolding copy-word
-copies-words b g m p l u i = go (turn i (b .state .index))
+copies-words : (p : ℕ) (b : Box) (g : Ghosts) → Move b g → b .state .phase ≡ 5 → 6 ≤ p → p ≤ 7 → (i : ℕ) → word (b .state .tuple) i (copied-box p b) ≡ word (b .state .tuple) i b
+copies-words p b g m q l u i = go (turn i (b .state .index))
   where
-    go : Turn i (b .state .index) → word (b .state .tuple) i (copied b) ≡ word (b .state .tuple) i b
-    go (earlier e) = word-moved (b .state .tuple) i (copied b) refl (omega arith) u e ∙ sym (word-moved (b .state .tuple) i b refl (omega arith) (omega arith) e)
-    go (now e) = word-copied (b .state .tuple) i (copied b) refl l u e ∙ ap (λ (a : ℕ). word-at a b) (sym (ap (λ (a : ℕ). a + i) (m .src-is) ∙ ap (λ (j : ℕ). b .state .src + j) e)) ∙ sym (word-unread (b .state .tuple) i b (omega arith) (omega arith))
-    go (later e) = word-unmoved (b .state .tuple) i (copied b) e ∙ sym (word-unmoved (b .state .tuple) i b e)
+    go : Turn i (b .state .index) → word (b .state .tuple) i (copied-box p b) ≡ word (b .state .tuple) i b
+    go (earlier e) = word-moved (b .state .tuple) i (copied-box p b) refl (omega arith) u e ∙ sym (word-moved (b .state .tuple) i b refl (omega arith) (omega arith) e)
+    go (now e) = word-copied (b .state .tuple) i (copied-box p b) refl l u e ∙ ap (λ (a : ℕ). word-at a b) (sym (ap (λ (a : ℕ). a + i) (m .src-is) ∙ ap (λ (j : ℕ). b .state .src + j) e)) ∙ sym (word-unread (b .state .tuple) i b (omega arith) (omega arith))
+    go (later e) = word-unmoved (b .state .tuple) i (copied-box p b) e ∙ sym (word-unmoved (b .state .tuple) i b e)
 
-copies-within : (b : Box) (g : Ghosts) → Move b g → b .state .phase ≡ 5 → 6 ≤ copied b .state .phase → copied b .state .phase ≤ 7 → Within b (copied b)
-unfolding copy-word
-copies-within b g m p l u = record { m-same = refl; h-same = refl; registers-same = refl; register-flags-same = refl; top-same = refl; free-same = refl; live-same = refl; current-same = refl; next-same = refl; src-same = refl; dest-same = refl; tuple-same = refl; size-same = refl; held-same = refl; hold-same = refl; addresses-same = refl; sizes-same = refl; links-same = refl; marks-same = refl; deeps-same = refl; words-length = refl; flags-length = refl; phase-before = omega arith; phase-after = omega arith; words-below = λ a x. refl; words-above = λ a x. refl; words-moved = λ i x. copies-words b g m p l u i }
+copies-within : (p : ℕ) (b : Box) (g : Ghosts) → Move b g → b .state .phase ≡ 5 → 6 ≤ p → p ≤ 7 → Within b (copied-box p b)
+copies-within p b g m q l u = record { m-same = refl; h-same = refl; registers-same = refl; register-flags-same = refl; top-same = refl; free-same = refl; live-same = refl; current-same = refl; next-same = refl; src-same = refl; dest-same = refl; tuple-same = refl; size-same = refl; held-same = refl; hold-same = refl; addresses-same = refl; sizes-same = refl; links-same = refl; marks-same = refl; deeps-same = refl; words-length = refl; flags-length = refl; phase-before = omega arith; phase-after = omega arith; words-below = λ a x. refl; words-above = λ a x. refl; words-moved = λ i x. copies-words p b g m q l u i }
 
 -- zero words stay; where src + index is below live, the bound may pass it
-copies-zero : (b : Box) (z y : ℕ) → ((a : ℕ) → b .state .live ≤ a → a < y → a < z) → Zero b z → Zero (copied b) y
-unfolding copy-word
-copies-zero b z y f s = record { above-top = s .above-top; behind = λ a l u. s .behind a l (f a l u) }
+copies-zero : (p : ℕ) (b : Box) (z y : ℕ) → ((a : ℕ) → b .state .live ≤ a → a < y → a < z) → Zero b z → Zero (copied-box p b) y
+copies-zero p b z y f s = record { above-top = s .above-top; behind = λ a l u. s .behind a l (f a l u) }
 
-low-stage : (b : Box) (g : Ghosts) → b .state .index ≤ b .state .size → copied b .state .phase ≡ 7 → Move (copied b) (zeroed-to (b .state .src + b .state .index + 1) g) → Stage (copied b) (zeroed-to (b .state .src + b .state .index + 1) g)
-unfolding copy-word
-low-stage b g l e m = writing e m l refl
-
-high-stage : (b : Box) (g : Ghosts) → b .state .index ≤ b .state .size → copied b .state .phase ≡ 6 → Move (copied b) (zeroed-to (b .state .src + b .state .index) g) → Stage (copied b) (zeroed-to (b .state .src + b .state .index) g)
-unfolding copy-word
-high-stage b g l e m = clearing e m l refl
-
-pub copies-low : (b : Box) (g : Ghosts) → Inv b g → b .state .phase ≡ 5 → b .state .index ≤ b .state .size → b .state .src + b .state .index < b .state .live → Next b g (copy-word (b .state .src + b .state .index) b)
+-- below live: to phase 7
+pub copies-low : (b : Box) (g : Ghosts) → Inv b g → b .state .phase ≡ 5 → b .state .index ≤ b .state .size → b .state .src + b .state .index < b .state .live → Next b g (copied-box 7 b)
 copies-low b g v p l u =
     let s : AtRead b g = at-read b g (v .stage) p in
-    let e : copied b .state .phase ≡ 7 = low-phase b u in
-    within b (copied b) g (b .state .src + b .state .index + 1) v (s .move) (copies-within b g (s .move) p (omega arith) (omega arith)) (copies-zero b (g .zeroed) (b .state .src + b .state .index + 1) (λ a x y. omega (arith, s .zeroed-is)) (v .zero-words)) (low-stage b g l e)
+    within b (copied-box 7 b) g (b .state .src + b .state .index + 1) v (s .move)
+    (copies-within 7 b g (s .move) p (omega arith) (omega arith))
+    (copies-zero 7 b (g .zeroed) (b .state .src + b .state .index + 1) (λ a x y. omega (arith, s .zeroed-is)) (v .zero-words))
+    (λ m. writing refl m l refl)
 
-pub copies-high : (b : Box) (g : Ghosts) → Inv b g → b .state .phase ≡ 5 → b .state .index ≤ b .state .size → b .state .live ≤ b .state .src + b .state .index → Next b g (copy-word (b .state .src + b .state .index) b)
+-- from live on: to phase 6
+pub copies-high : (b : Box) (g : Ghosts) → Inv b g → b .state .phase ≡ 5 → b .state .index ≤ b .state .size → b .state .live ≤ b .state .src + b .state .index → Next b g (copied-box 6 b)
 copies-high b g v p l u =
     let s : AtRead b g = at-read b g (v .stage) p in
-    let e : copied b .state .phase ≡ 6 = high-phase b u in
-    within b (copied b) g (b .state .src + b .state .index) v (s .move) (copies-within b g (s .move) p (omega arith) (omega arith)) (copies-zero b (g .zeroed) (b .state .src + b .state .index) (λ a x y. omega (arith, s .zeroed-is)) (v .zero-words)) (high-stage b g l e)
+    within b (copied-box 6 b) g (b .state .src + b .state .index) v (s .move)
+    (copies-within 6 b g (s .move) p (omega arith) (omega arith))
+    (copies-zero 6 b (g .zeroed) (b .state .src + b .state .index) (λ a x y. omega (arith, s .zeroed-is)) (v .zero-words))
+    (λ m. clearing refl m l refl)

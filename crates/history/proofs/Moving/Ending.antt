@@ -5,9 +5,8 @@ use mathlib.Core.List.{List, [], _∷_, _++_}
 use mathlib.Core.Path.{_≡_, refl, sym, ap, _∙_, subst}
 use native.Mathlib.Decide.{decLe}
 use native.Mathlib.Omega.{arith}
-use Rattle.memory.specs.Box.{Box, data-word, with-state, word-at}
-use Rattle.memory.specs.State.{with-top}
-use Rattle.memory.specs.Collector.{at-rest, settle-move}
+use Rattle.memory.specs.Box.{Box, data-word, word-at}
+use Rattle.memory.specs.Collector.{at-rest}
 use Rattle.history.specs.Agreement.{Member}
 use Rattle.history.proofs.Invariant.Statement.{Ghosts, Inv, all, Move, Kept, marked-rooms, settled, moving, unswept, surviving}
 use Rattle.history.proofs.Lists.Handles.{Perm, member-left}
@@ -18,10 +17,7 @@ use Rattle.history.proofs.Invariant.Resting.{resting-plan, resting, Fin
 use Rattle.history.proofs.Moving.Tuple.{Bounds, bounds}
 use Rattle.history.proofs.Moving.Settling.{Written, settled-perm, now-settled, was-kept, Settles, settled-now, settles-shape, settles-done, settles-words, settles-unmarked, size-same, mark-same, deep-same, root-same, word-same}
 use Rattle.history.proofs.Invariant.Stages.{AtRead, at-read}
-
--- the box handed to the end of the cycle
-abbrev pub left-last : Box → Box
-left-last b = with-state (with-top (settle-move b .state .dest) (settle-move b .state)) (settle-move b)
+use Rattle.history.proofs.View.Boxes.{moved-last-box}
 
 record Ends (b c : Box) : Type 0 where
   settles : Settles b c
@@ -30,8 +26,7 @@ record Ends (b c : Box) : Type 0 where
   next-same : c .state .next ≡ b .state .next
   current-same : c .state .current ≡ b .state .current
 
-ends : (b : Box) → Ends b (left-last b)
-unfolding settle-move
+ends : (b : Box) → Ends b (moved-last-box b)
 ends b = record { settles = record { m-same = refl; h-same = refl; registers-same = refl; register-flags-same = refl; held-same = refl; hold-same = refl; addresses-set = refl; sizes-same = refl; links-same = refl; marks-same = refl; deeps-same = refl; words-same = refl; flags-same = refl }; top-is = refl; free-same = refl; next-same = refl; current-same = refl }
 
 rest-settles : (b c : Box) → Settles b c → Settles b (at-rest c)
@@ -110,19 +105,19 @@ ends-box b c g v t w z e =
 
 -- every tuple is settled, in the box that the end of the cycle takes
 pub ends-finished : (b : Box) (g : Ghosts) → Inv b g → b .state .phase ≡ 5 → b .state .size < b .state .index → b .state .src + b .state .size + 1 ≡ b .state .top
-    → Finished (with-state (with-top (settle-move b .state .dest) (settle-move b .state)) (settle-move b)) (g .plan .done ++ (b .state .tuple ∷ [])) (g .free)
+    → Finished (moved-last-box b) (g .plan .done ++ (b .state .tuple ∷ [])) (g .free)
 ends-finished b g v p l e =
     let s : AtRead b g = at-read b g (v .stage) p in
-    ends-box b (left-last b) g v (record { move = s .move; in-phase = p; all-written = l }) (ends b) (omega arith) e
+    ends-box b (moved-last-box b) g v (record { move = s .move; in-phase = p; all-written = l }) (ends b) (omega arith) e
 
 -- and what is kept of the box at rest is as it was
 pub ends-calm : (b : Box) (g : Ghosts) → Inv b g → b .state .phase ≡ 5 → b .state .size < b .state .index → b .state .src + b .state .size + 1 ≡ b .state .top
-    → Calm b (g .plan) (at-rest (with-state (with-top (settle-move b .state .dest) (settle-move b .state)) (settle-move b))) (resting-plan (g .plan .done ++ (b .state .tuple ∷ [])))
+    → Calm b (g .plan) (at-rest (moved-last-box b)) (resting-plan (g .plan .done ++ (b .state .tuple ∷ [])))
 ends-calm b g v p l e =
     let m : Move b g = at-read b g (v .stage) p .move in
-    quiet-calm b (g .plan) (at-rest (left-last b)) (resting-plan (settled-now b g)) (ends-quiet b (at-rest (left-last b)) g v (record { move = m; in-phase = p; all-written = l }) (rest-settles b (left-last b) (ends b .settles)) (rest-phase (left-last b)) (no-ahead b g v m e))
+    quiet-calm b (g .plan) (at-rest (moved-last-box b)) (resting-plan (settled-now b g)) (ends-quiet b (at-rest (moved-last-box b)) g v (record { move = m; in-phase = p; all-written = l }) (rest-settles b (moved-last-box b) (ends b .settles)) (rest-phase (moved-last-box b)) (no-ahead b g v m e))
 
 pub ends-move : (b : Box) (g : Ghosts) → Inv b g → b .state .phase ≡ 5 → b .state .size < b .state .index → b .state .src + b .state .size + 1 ≡ b .state .top
-    → Next b g (at-rest (with-state (with-top (settle-move b .state .dest) (settle-move b .state)) (settle-move b)))
+    → Next b g (at-rest (moved-last-box b))
 ends-move b g v p l e =
-    record { ghosts = resting (settled-now b g) (g .free); inv = finished (left-last b) (settled-now b g) (g .free) (ends-finished b g v p l e); calm = ends-calm b g v p l e }
+    record { ghosts = resting (settled-now b g) (g .free); inv = finished (moved-last-box b) (settled-now b g) (g .free) (ends-finished b g v p l e); calm = ends-calm b g v p l e }

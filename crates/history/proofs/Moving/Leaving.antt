@@ -7,7 +7,6 @@ use mathlib.Core.Logic.{_≢_}
 use mathlib.Core.Path.{_≡_, refl, sym, ap, _∙_}
 use native.Mathlib.Omega.{arith}
 use Rattle.memory.specs.Box.{Box, handle-of, word-at}
-use Rattle.memory.specs.Collector.{after, go-on, settle-move}
 use Rattle.history.proofs.Invariant.Statement.{Plan, Ghosts, Inv, Kept, Layout, Zero, Marks, Stage, rooms, settled, moving, unswept, surviving, sweeping}
 use Rattle.history.proofs.Lists.Handles.{member-left}
 use Rattle.history.proofs.Lists.Laid.{Front, laid-front, laid-to, marked-rooms-frame}
@@ -15,10 +14,7 @@ use Rattle.history.proofs.Invariant.Frame.{handles-moved, Quiet, quiet-
 use Rattle.history.proofs.Moving.Tuple.{Bounds, bounds}
 use Rattle.history.proofs.Moving.Settling.{Written, settled-perm, now-settled, was-kept, Settles, settled-now, settles-shape, settles-done, settles-ahead, settles-words, settles-unmarked, size-same, mark-same, deep-same, root-same, word-same}
 use Rattle.history.proofs.Invariant.Stages.{AtRead, at-read}
-
--- the box that the sweep goes on with
-abbrev pub left-on : Box → Box
-left-on b = go-on (after (settle-move b)) (settle-move b)
+use Rattle.history.proofs.View.Boxes.{moved-box}
 
 abbrev pub left-plan : Box → Ghosts → Plan
 left-plan b g = record { done = settled-now b g; mid = []; ahead = g .plan .ahead; low = b .state .dest + b .state .size + 1; base = b .state .src + b .state .size + 1 }
@@ -39,8 +35,7 @@ record Leaves (b c : Box) : Type 0 where
   dest-is : c .state .dest ≡ b .state .dest + b .state .size + 1
   tuple-is : c .state .tuple ≡ handle-of (word-at (b .state .src + b .state .size + 1) c)
 
-leaves : (b : Box) → Leaves b (left-on b)
-unfolding go-on settle-move
+leaves : (b : Box) → Leaves b (moved-box b)
 leaves b = record { settles = record { m-same = refl; h-same = refl; registers-same = refl; register-flags-same = refl; held-same = refl; hold-same = refl; addresses-set = refl; sizes-same = refl; links-same = refl; marks-same = refl; deeps-same = refl; words-same = refl; flags-same = refl }; top-same = refl; free-same = refl; live-same = refl; next-same = refl; current-same = refl; phase-is = refl; src-is = refl; dest-is = refl; tuple-is = refl }
 
 leaves-quiet : (b c : Box) (g : Ghosts) → Inv b g → Written b g → Leaves b c → Quiet b (g .plan) c (left-plan b g)
@@ -132,7 +127,7 @@ leaves-inv b c g v t w z n =
       calm = quiet-calm b (g .plan) c (left-plan b g) q;
     }
 
-pub moves-on : (b : Box) (g : Ghosts) → Inv b g → b .state .phase ≡ 5 → b .state .size < b .state .index → b .state .src + b .state .size + 1 ≢ b .state .top → Next b g (go-on (after (settle-move b)) (settle-move b))
+pub moves-on : (b : Box) (g : Ghosts) → Inv b g → b .state .phase ≡ 5 → b .state .size < b .state .index → b .state .src + b .state .size + 1 ≢ b .state .top → Next b g (moved-box b)
 moves-on b g v p l n =
     let s : AtRead b g = at-read b g (v .stage) p in
-    leaves-inv b (left-on b) g v (record { move = s .move; in-phase = p; all-written = l }) (leaves b) (omega arith) n
+    leaves-inv b (moved-box b) g v (record { move = s .move; in-phase = p; all-written = l }) (leaves b) (omega arith) n

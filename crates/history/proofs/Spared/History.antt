@@ -19,6 +19,7 @@ use Rattle.history.specs.Machine.{HWord, datum, pointer-to, HTuple, Hist
 use Rattle.history.proofs.Relation.NewTuple.{made-make, tuple-old, tuple-new}
 use Rattle.history.proofs.Relation.Store.{stored-in, made-stored, tuple-stored, tuple-not-stored}
 use Rattle.history.proofs.Spared.Tracked.{Spared, made-since, size-beyond}
+use Rattle.history.proofs.Census.Reach.{target}
 
 pub record SparedIn (m started : History) : Type 0 where
   pub not-fewer : made started ≤ made m
@@ -28,10 +29,6 @@ pub record SparedIn (m started : History) : Type 0 where
 -- what a word names, if it names a tuple, is spared
 abbrev pub SparedWord : History → HWord → Type 0
 SparedWord started v = (i o : ℕ) → v ≡ pointer-to i o → i ≢ 0 → Spared started i
-
-abbrev target : HWord → ℕ
-target (datum v) = 0
-target (pointer-to i o) = i
 
 pub datum-spared : (started : History) (v : ℕ) → SparedWord started (datum v)
 datum-spared started v i o e n = absurd (n (sym (ap target e)))

@@ -11,23 +11,24 @@ use Rattle.memory.specs.Collector.{after}
 use Rattle.history.proofs.Invariant.Statement.{Ghosts, Inv}
 use Rattle.history.proofs.Lists.Laid.{laid-le}
 use Rattle.history.proofs.Sweep.Ghosts.{Scanned, scanned, Zeroed, zeroed-view}
-use Rattle.history.proofs.Sweep.Tuple.{swept-end, entry, end-below-top, more-behind}
+use Rattle.history.proofs.Sweep.Tuple.{entry, end-below-top, more-behind}
+use Rattle.history.proofs.View.Boxes.{swept-after}
 
 -- ---- phase 4
 
 pub sweep-entry : (b : Box) (g : Ghosts) → Inv b g → b .state .phase ≡ 4 → (1 ≤ b .state .tuple) × (b .state .tuple < b .state .h)
 sweep-entry b g v ph = let s : Scanned b g = scanned b g v ph in entry b (s .settled-tuples) (s .behind-it) (s .free-handles) (s .inv)
 
-pub sweep-end-below-top : (b : Box) (g : Ghosts) → Inv b g → b .state .phase ≡ 4 → swept-end b ≤ b .state .top
+pub sweep-end-below-top : (b : Box) (g : Ghosts) → Inv b g → b .state .phase ≡ 4 → swept-after b ≤ b .state .top
 sweep-end-below-top b g v ph = let s : Scanned b g = scanned b g v ph in end-below-top b (s .settled-tuples) (s .behind-it) (s .free-handles) (s .inv)
 
-pub sweep-end-fits : (b : Box) (g : Ghosts) → Inv b g → b .state .phase ≡ 4 → swept-end b ≤ b .state .m
+pub sweep-end-fits : (b : Box) (g : Ghosts) → Inv b g → b .state .phase ≡ 4 → swept-after b ≤ b .state .m
 sweep-end-fits b g v ph = omega (arith, sweep-end-below-top b g v ph, v .layout .top-fits)
 
-pub sweep-more-fits : (b : Box) (g : Ghosts) → Inv b g → b .state .phase ≡ 4 → swept-end b ≢ b .state .top → swept-end b < b .state .m
+pub sweep-more-fits : (b : Box) (g : Ghosts) → Inv b g → b .state .phase ≡ 4 → swept-after b ≢ b .state .top → swept-after b < b .state .m
 sweep-more-fits b g v ph more = omega (arith, sweep-end-below-top b g v ph, v .layout .top-fits)
 
-pub release-more-fits : (b : Box) (g : Ghosts) → Inv b g → b .state .phase ≡ 4 → marked (b .state .tuple) b ≡ false → b .state .src + size-of (b .state .tuple) b < b .state .live → swept-end b < b .state .m
+pub release-more-fits : (b : Box) (g : Ghosts) → Inv b g → b .state .phase ≡ 4 → marked (b .state .tuple) b ≡ false → b .state .src + size-of (b .state .tuple) b < b .state .live → swept-after b < b .state .m
 release-more-fits b g v ph mk below =
     let s : Scanned b g = scanned b g v ph in
     omega (arith, more-behind b (s .settled-tuples) (s .behind-it) (s .free-handles) (s .inv) mk below, v .layout .top-fits)

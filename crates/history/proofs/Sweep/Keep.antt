@@ -7,8 +7,7 @@ use mathlib.Core.Logic.{_≢_, _⊎_, inl, inr}
 use mathlib.Core.Path.{_≡_, refl, sym, _∙_, ap, subst}
 use native.Mathlib.Omega.{arith}
 use lib.ListN.{length-set}
-use Rattle.memory.specs.State.{with-phase, with-src, with-dest, with-tuple, with-size}
-use Rattle.memory.specs.Box.{Box, handle-of, with-state, word-at, size-of, marked, set-mark}
+use Rattle.memory.specs.Box.{Box, handle-of, word-at, marked}
 use Rattle.memory.specs.Collector.{at-rest}
 use Rattle.history.specs.Agreement.{Member}
 use Rattle.history.proofs.Invariant.Statement.{Plan, Ghosts, Inv, Laid, marked-rooms, Kept, settled, moving, unswept, surviving, Layout, Zero, Marks, Stage}
@@ -17,22 +16,13 @@ use Rattle.history.proofs.Lists.Handles.{member-left, member-right, mem
 use Rattle.history.proofs.Lists.Laid.{laid-frame, laid-snoc, laid-to, laid-none, marked-rooms-frame}
 use Rattle.history.proofs.Invariant.Frame.{SameShape, shape-same, handles-moved, Quiet, quiet-contents, quiet-calm, Next}
 use Rattle.history.proofs.Invariant.Resting.{resting-plan}
-use Rattle.history.proofs.Sweep.Tuple.{swept-end, ahead-other, at-src, control-at-src, behind-laid, live-if-marked, unmarked-other, still-unmarked, settled-unmarked}
+use Rattle.history.proofs.Sweep.Tuple.{ahead-other, at-src, control-at-src, behind-laid, live-if-marked, unmarked-other, still-unmarked, settled-unmarked}
 use Rattle.history.proofs.Sweep.Ghosts.{no-scans, sweep-plan, sweep-ghosts, unlisted, scan-ghosts, Scanned, scanned, next-at, Ended, ended-at, rooms-none, swept-marks, plain-quiet, next-tuple}
-
--- the box with another tuple behind
-abbrev pub kept-box : Box → Box
-kept-box b =
-    set-mark (b .state .tuple) false
-    (with-state
-    (with-src (swept-end b)
-    (with-dest (swept-end b)
-    (with-tuple (handle-of (word-at (swept-end b) b)) (with-size (size-of (b .state .tuple) b) (with-phase 4 (b .state))))))
-    b)
+use Rattle.history.proofs.View.Boxes.{kept-box, kept-last-box, swept-after}
 
 -- the plan after it
 abbrev kept-plan : Box → List ℕ → List ℕ → Plan
-kept-plan b ds hs = sweep-plan (swept-end b) (swept-end b) (ds ++ (b .state .tuple ∷ [])) hs
+kept-plan b ds hs = sweep-plan (swept-after b) (swept-after b) (ds ++ (b .state .tuple ∷ [])) hs
 
 -- ---- kept in place, with another tuple behind
 
@@ -40,17 +30,17 @@ module _ (b : Box) (ds hs free : List ℕ) (v : Inv b (scan-ghosts b ds hs free)
   keep-shape : SameShape b (kept-box b)
   keep-shape = record { m-same = refl; h-same = refl; words-same = refl; flags-same = refl; addresses-same = refl; sizes-same = refl; links-same = refl; marks-same = length-set (b .marks) (b .state .tuple) false; deeps-same = refl; registers-same = refl; register-flags-same = refl; held-same = λ e. (e, refl) }
 
-  keep-settled-laid : Laid b 0 (ds ++ (b .state .tuple ∷ [])) (swept-end b)
+  keep-settled-laid : Laid b 0 (ds ++ (b .state .tuple ∷ [])) (swept-after b)
   keep-settled-laid =
       laid-snoc b 0 ds (b .state .src) (b .state .tuple) (laid-to b 0 ds (b .state .dest) (b .state .src) (sym at-dest) (v .layout .done-laid)) (at-src b ds hs free v) (control-at-src b ds hs free v)
 
   keep-layout : Layout (kept-box b) (kept-plan b ds hs)
-  keep-layout = record { done-laid = laid-frame b (kept-box b) 0 (ds ++ (b .state .tuple ∷ [])) (swept-end b) (λ h x. refl) (λ h x. refl) (λ h x. refl) keep-settled-laid; ahead-laid = laid-frame b (kept-box b) (swept-end b) hs (b .state .top) (λ h x. refl) (λ h x. refl) (λ h x. refl) (behind-laid b ds hs free v); low-base = omega (arith, rooms-none (kept-box b)); top-fits = v .layout .top-fits }
+  keep-layout = record { done-laid = laid-frame b (kept-box b) 0 (ds ++ (b .state .tuple ∷ [])) (swept-after b) (λ h x. refl) (λ h x. refl) (λ h x. refl) keep-settled-laid; ahead-laid = laid-frame b (kept-box b) (swept-after b) hs (b .state .top) (λ h x. refl) (λ h x. refl) (λ h x. refl) (behind-laid b ds hs free v); low-base = omega (arith, rooms-none (kept-box b)); top-fits = v .layout .top-fits }
 
-  keep-live : b .state .live ≡ swept-end b + marked-rooms b hs
+  keep-live : b .state .live ≡ swept-after b + marked-rooms b hs
   keep-live = omega (arith, live-if-marked b ds hs free v mk)
 
-  keep-zero : Zero (kept-box b) (swept-end b)
+  keep-zero : Zero (kept-box b) (swept-after b)
   keep-zero = record { above-top = v .zero-words .above-top; behind = λ a l u. absurd (omega (arith, keep-live)) }
 
   keep-ahead-rooms : marked-rooms (kept-box b) hs ≡ marked-rooms b hs
@@ -84,15 +74,15 @@ module _ (b : Box) (ds hs free : List ℕ) (v : Inv b (scan-ghosts b ds hs free)
   keep-quiet : Quiet b (scan-ghosts b ds hs free .plan) (kept-box b) (kept-plan b ds hs)
   keep-quiet = plain-quiet b (scan-ghosts b ds hs free .plan) (kept-box b) (kept-plan b ds hs) (λ h i. word-early h i b (omega arith)) (λ h i. word-early h i (kept-box b) (omega arith)) (λ h. refl) (λ h. refl) (λ a. refl) (λ h. refl) (λ r. refl) keep-to keep-from
 
-  keep-stage : swept-end b ≢ b .state .top → Stage (kept-box b) (sweep-ghosts (swept-end b) (swept-end b) (swept-end b) (ds ++ (b .state .tuple ∷ [])) hs free)
+  keep-stage : swept-after b ≢ b .state .top → Stage (kept-box b) (sweep-ghosts (swept-after b) (swept-after b) (swept-after b) (ds ++ (b .state .tuple ∷ [])) hs free)
   keep-stage more =
-      let n : (ks : List ℕ) × (hs ≡ handle-of (word-at (swept-end b) b) ∷ ks) = next-tuple b (swept-end b) hs (b .state .top) (behind-laid b ds hs free v) more in
-      Stage.sweeping refl (unlisted (swept-end b) (swept-end b) (swept-end b) (ds ++ (b .state .tuple ∷ [])) hs free) refl refl refl refl (n .0) (n .1)
+      let n : (ks : List ℕ) × (hs ≡ handle-of (word-at (swept-after b) b) ∷ ks) = next-tuple b (swept-after b) hs (b .state .top) (behind-laid b ds hs free v) more in
+      Stage.sweeping refl (unlisted (swept-after b) (swept-after b) (swept-after b) (ds ++ (b .state .tuple ∷ [])) hs free) refl refl refl refl (n .0) (n .1)
 
-  keeps-at : swept-end b ≢ b .state .top → Next b (scan-ghosts b ds hs free) (kept-box b)
+  keeps-at : swept-after b ≢ b .state .top → Next b (scan-ghosts b ds hs free) (kept-box b)
   keeps-at more =
       record {
-        ghosts = sweep-ghosts (swept-end b) (swept-end b) (swept-end b) (ds ++ (b .state .tuple ∷ [])) hs free;
+        ghosts = sweep-ghosts (swept-after b) (swept-after b) (swept-after b) (ds ++ (b .state .tuple ∷ [])) hs free;
         inv = record {
           shape = shape-same b (kept-box b) keep-shape (v .shape);
           handles = handles-moved b (kept-box b) (scan-ghosts b ds hs free .plan) (kept-plan b ds hs) free free (perm-ahead-done (b .state .tuple) ds hs free) refl (v .handles .free-chain) (v .handles);
@@ -105,16 +95,12 @@ module _ (b : Box) (ds hs free : List ℕ) (v : Inv b (scan-ghosts b ds hs free)
         calm = quiet-calm b (scan-ghosts b ds hs free .plan) (kept-box b) (kept-plan b ds hs) keep-quiet;
       }
 
-pub keeps : (b : Box) (g : Ghosts) → Inv b g → b .state .phase ≡ 4 → marked (b .state .tuple) b ≡ true → b .state .src ≡ b .state .dest → swept-end b ≢ b .state .top → Next b g (kept-box b)
+pub keeps : (b : Box) (g : Ghosts) → Inv b g → b .state .phase ≡ 4 → marked (b .state .tuple) b ≡ true → b .state .src ≡ b .state .dest → swept-after b ≢ b .state .top → Next b g (kept-box b)
 keeps b g v ph mk at-dest more =
     let s : Scanned b g = scanned b g v ph in
     next-at b g (scan-ghosts b (s .settled-tuples) (s .behind-it) (s .free-handles)) (kept-box b) (s .are) (keeps-at b (s .settled-tuples) (s .behind-it) (s .free-handles) (s .inv) ph mk at-dest more)
 
 -- ---- kept in place as the last tuple
-
--- the box that is left to the end of the cycle
-abbrev pub kept-last-box : Box → Box
-kept-last-box b = set-mark (b .state .tuple) false (with-state (with-size (size-of (b .state .tuple) b) (b .state)) b)
 
 module _ (b : Box) (ds free : List ℕ) (v : Inv b (scan-ghosts b ds [] free)) (ph : b .state .phase ≡ 4) (mk : marked (b .state .tuple) b ≡ true) (at-dest : b .state .src ≡ b .state .dest) where
   last-shape : SameShape b (kept-last-box b)
@@ -123,7 +109,7 @@ module _ (b : Box) (ds free : List ℕ) (v : Inv b (scan-ghosts b ds [] free)) (
   last-laid : Laid (kept-last-box b) 0 (ds ++ (b .state .tuple ∷ [])) (b .state .top)
   last-laid =
       laid-frame b (kept-last-box b) 0 (ds ++ (b .state .tuple ∷ [])) (b .state .top) (λ h x. refl) (λ h x. refl) (λ h x. refl)
-      (laid-to b 0 (ds ++ (b .state .tuple ∷ [])) (swept-end b) (b .state .top) (behind-laid b ds [] free v) (keep-settled-laid b ds [] free v ph mk at-dest))
+      (laid-to b 0 (ds ++ (b .state .tuple ∷ [])) (swept-after b) (b .state .top) (behind-laid b ds [] free v) (keep-settled-laid b ds [] free v ph mk at-dest))
 
   last-from : (h : ℕ) → Kept b (scan-ghosts b ds [] free .plan) h → Kept (at-rest (kept-last-box b)) (resting-plan (ds ++ (b .state .tuple ∷ []))) h
   unfolding at-rest
@@ -162,10 +148,10 @@ module _ (b : Box) (ds free : List ℕ) (v : Inv b (scan-ghosts b ds [] free)) (
         calm = quiet-calm b (scan-ghosts b ds [] free .plan) (at-rest (kept-last-box b)) (resting-plan (ds ++ (b .state .tuple ∷ []))) last-quiet;
       }
 
-pub keeps-last : (b : Box) (g : Ghosts) → Inv b g → b .state .phase ≡ 4 → marked (b .state .tuple) b ≡ true → b .state .src ≡ b .state .dest → swept-end b ≡ b .state .top → Ended b g (kept-last-box b)
+pub keeps-last : (b : Box) (g : Ghosts) → Inv b g → b .state .phase ≡ 4 → marked (b .state .tuple) b ≡ true → b .state .src ≡ b .state .dest → swept-after b ≡ b .state .top → Ended b g (kept-last-box b)
 keeps-last b g v ph mk at-dest last =
     let s : Scanned b g = scanned b g v ph in
-    let e : s .behind-it ≡ [] = laid-none b (swept-end b) (s .behind-it) (b .state .top) (behind-laid b (s .settled-tuples) (s .behind-it) (s .free-handles) (s .inv)) last in
+    let e : s .behind-it ≡ [] = laid-none b (swept-after b) (s .behind-it) (b .state .top) (behind-laid b (s .settled-tuples) (s .behind-it) (s .free-handles) (s .inv)) last in
     ended-at b g (scan-ghosts b (s .settled-tuples) [] (s .free-handles)) (kept-last-box b)
     (s .are ∙ ap (λ (hs : List ℕ). scan-ghosts b (s .settled-tuples) hs (s .free-handles)) e)
     (keeps-last-at b (s .settled-tuples) (s .free-handles) (subst (λ (hs : List ℕ). Inv b (scan-ghosts b (s .settled-tuples) hs (s .free-handles))) e (s .inv)) ph mk at-dest)

@@ -7,8 +7,7 @@ use mathlib.Core.Logic.{_≢_, inl, inr}
 use mathlib.Core.Path.{_≡_, refl, sym, _∙_, ap, subst}
 use native.Mathlib.Omega.{arith}
 use lib.ListN.{length-set}
-use Rattle.memory.specs.State.{with-phase, with-size, with-index}
-use Rattle.memory.specs.Box.{Box, Word, with-state, word-at, address, size-of, marked, set-mark}
+use Rattle.memory.specs.Box.{Box, Word, word-at, address, marked}
 use Rattle.history.specs.Agreement.{Member}
 use Rattle.history.proofs.Invariant.Statement.{Plan, Ghosts, Inv, word, Control, marked-rooms, Kept, settled, moving, unswept, surviving, Layout, Marks, Move, Stage}
 use Rattle.history.proofs.Invariant.Words.{word-early, word-unread}
@@ -16,13 +15,11 @@ use Rattle.history.proofs.Lists.Handles.{perm-ahead-mid}
 use Rattle.history.proofs.Lists.Laid.{laid-frame, rooms-one, marked-rooms-frame}
 use Rattle.history.proofs.Invariant.Frame.{SameShape, shape-same, handles-moved, Quiet, quiet-contents, quiet-calm, Next}
 use Rattle.history.proofs.Sweep.Ghosts.{no-scans, scan-ghosts, Scanned, scanned, next-at, swept-marks, plain-quiet}
-use Rattle.history.proofs.Sweep.Tuple.{swept-end, ahead-other, at-src, control-at-src, behind-laid, dest-below-src, live-if-marked, unmarked-here, unmarked-other, still-unmarked}
-
-abbrev pub move-begun-box : Box → Box
-move-begun-box b = set-mark (b .state .tuple) false (with-state (with-size (size-of (b .state .tuple) b) (with-index 0 (with-phase 5 (b .state)))) b)
+use Rattle.history.proofs.Sweep.Tuple.{ahead-other, at-src, control-at-src, behind-laid, dest-below-src, live-if-marked, unmarked-here, unmarked-other, still-unmarked}
+use Rattle.history.proofs.View.Boxes.{move-begun-box, swept-after}
 
 abbrev move-begun-plan : Box → List ℕ → List ℕ → Plan
-move-begun-plan b ds hs = record { done = ds; mid = b .state .tuple ∷ []; ahead = hs; low = b .state .dest; base = swept-end b }
+move-begun-plan b ds hs = record { done = ds; mid = b .state .tuple ∷ []; ahead = hs; low = b .state .dest; base = swept-after b }
 
 abbrev move-begun-ghosts : Box → List ℕ → List ℕ → List ℕ → Ghosts
 move-begun-ghosts b ds hs free = record { plan = move-begun-plan b ds hs; free = free; scans = no-scans; zeroed = b .state .src }
@@ -32,7 +29,7 @@ module _ (b : Box) (ds hs free : List ℕ) (v : Inv b (scan-ghosts b ds hs free)
   begun-shape = record { m-same = refl; h-same = refl; words-same = refl; flags-same = refl; addresses-same = refl; sizes-same = refl; links-same = refl; marks-same = length-set (b .marks) (b .state .tuple) false; deeps-same = refl; registers-same = refl; register-flags-same = refl; held-same = λ e. (e, refl) }
 
   begun-layout : Layout (move-begun-box b) (move-begun-plan b ds hs)
-  begun-layout = record { done-laid = laid-frame b (move-begun-box b) 0 ds (b .state .dest) (λ h x. refl) (λ h x. refl) (λ h x. refl) (v .layout .done-laid); ahead-laid = laid-frame b (move-begun-box b) (swept-end b) hs (b .state .top) (λ h x. refl) (λ h x. refl) (λ h x. refl) (behind-laid b ds hs free v); low-base = omega (arith, rooms-one (move-begun-box b) (b .state .tuple), dest-below-src b ds hs free v); top-fits = v .layout .top-fits }
+  begun-layout = record { done-laid = laid-frame b (move-begun-box b) 0 ds (b .state .dest) (λ h x. refl) (λ h x. refl) (λ h x. refl) (v .layout .done-laid); ahead-laid = laid-frame b (move-begun-box b) (swept-after b) hs (b .state .top) (λ h x. refl) (λ h x. refl) (λ h x. refl) (behind-laid b ds hs free v); low-base = omega (arith, rooms-one (move-begun-box b) (b .state .tuple), dest-below-src b ds hs free v); top-fits = v .layout .top-fits }
 
   begun-rooms : marked-rooms (move-begun-box b) hs ≡ marked-rooms b hs
   begun-rooms = marked-rooms-frame b (move-begun-box b) hs (λ h x. refl) (λ h x. unmarked-other b ds hs free v h (ahead-other b ds hs free v h x))

@@ -18,26 +18,8 @@ use Rattle.history.proofs.Lists.Chain.{chain-push}
 use Rattle.history.proofs.Lists.Laid.{laid-frame, marked-rooms-frame}
 use Rattle.history.proofs.Invariant.Frame.{SameShape, shape-same, handles-moved, Quiet, quiet-contents, quiet-calm, Next}
 use Rattle.history.proofs.Sweep.Ghosts.{no-scans, sweep-plan, sweep-ghosts, unlisted, scan-ghosts, Scanned, scanned, next-at, rooms-none, swept-marks, Plain, plain-quiet, next-tuple}
-use Rattle.history.proofs.Sweep.Tuple.{swept-end, in-links, not-free, behind-laid, dest-below-src, live-if-unmarked, more-behind}
-
--- the box where the sweep goes on behind the tuple
-abbrev pub released-box : Box → Box
-released-box b =
-    set-link (b .state .tuple) (b .state .free)
-    (with-state
-    (with-free (b .state .tuple)
-    (with-src (swept-end b)
-    (with-tuple (handle-of (word-at (swept-end b) b)) (with-size (size-of (b .state .tuple) b) (with-phase 4 (b .state))))))
-    b)
-
--- the box where zeroing begins, at live or, if that is passed, at src
-abbrev pub zero-begun-box : Box → Box
-zero-begun-box b =
-    set-link (b .state .tuple) (b .state .free)
-    (with-state
-    (with-free (b .state .tuple)
-    (with-size (size-of (b .state .tuple) b) (with-index (b .state .live - b .state .src) (with-phase 8 (b .state)))))
-    b)
+use Rattle.history.proofs.Sweep.Tuple.{in-links, not-free, behind-laid, dest-below-src, live-if-unmarked, more-behind}
+use Rattle.history.proofs.View.Boxes.{released-box, zero-begun-box, swept-after}
 
 -- ---- what the two boxes share: the tuple is freed, and those behind it lie ahead
 
@@ -50,7 +32,7 @@ freed-box src tuple index phase b =
     b)
 
 abbrev freed-plan : Box → List ℕ → List ℕ → Plan
-freed-plan b ds hs = sweep-plan (b .state .dest) (swept-end b) ds hs
+freed-plan b ds hs = sweep-plan (b .state .dest) (swept-after b) ds hs
 
 module _ (b : Box) (ds hs free : List ℕ) (v : Inv b (scan-ghosts b ds hs free)) (ph : b .state .phase ≡ 4) (mk : marked (b .state .tuple) b ≡ false) (s t n p : ℕ) (later : 4 ≤ p) (plain : Plain (freed-box s t n p b)) where
   freed-chain : Chain (set (b .links) (b .state .tuple) (b .state .free)) (b .state .tuple) (b .state .tuple ∷ free)
@@ -64,7 +46,7 @@ module _ (b : Box) (ds hs free : List ℕ) (v : Inv b (scan-ghosts b ds hs free)
   freed-shape = record { m-same = refl; h-same = refl; words-same = refl; flags-same = refl; addresses-same = refl; sizes-same = refl; links-same = length-set (b .links) (b .state .tuple) (b .state .free); marks-same = refl; deeps-same = refl; registers-same = refl; register-flags-same = refl; held-same = λ e. (e, refl) }
 
   freed-layout : Layout (freed-box s t n p b) (freed-plan b ds hs)
-  freed-layout = record { done-laid = laid-frame b (freed-box s t n p b) 0 ds (b .state .dest) (λ h x. refl) (λ h x. refl) (λ h x. refl) (v .layout .done-laid); ahead-laid = laid-frame b (freed-box s t n p b) (swept-end b) hs (b .state .top) (λ h x. refl) (λ h x. refl) (λ h x. refl) (behind-laid b ds hs free v); low-base = omega (arith, rooms-none (freed-box s t n p b), dest-below-src b ds hs free v); top-fits = v .layout .top-fits }
+  freed-layout = record { done-laid = laid-frame b (freed-box s t n p b) 0 ds (b .state .dest) (λ h x. refl) (λ h x. refl) (λ h x. refl) (v .layout .done-laid); ahead-laid = laid-frame b (freed-box s t n p b) (swept-after b) hs (b .state .top) (λ h x. refl) (λ h x. refl) (λ h x. refl) (behind-laid b ds hs free v); low-base = omega (arith, rooms-none (freed-box s t n p b), dest-below-src b ds hs free v); top-fits = v .layout .top-fits }
 
   freed-rooms : marked-rooms (freed-box s t n p b) hs ≡ marked-rooms b hs
   freed-rooms = marked-rooms-frame b (freed-box s t n p b) hs (λ h x. refl) (λ h x. refl)
@@ -89,11 +71,11 @@ module _ (b : Box) (ds hs free : List ℕ) (v : Inv b (scan-ghosts b ds hs free)
   freed-quiet = plain-quiet b (scan-ghosts b ds hs free .plan) (freed-box s t n p b) (freed-plan b ds hs) (λ h i. word-early h i b (omega arith)) plain (λ h. refl) (λ h. refl) (λ a. refl) (λ h. refl) (λ r. refl) freed-to freed-from
 
   -- what is left to each: which words are data 0, and the stage
-  freed-next : (z : ℕ) → ((a : ℕ) → b .state .live ≤ a → a < z → a < b .state .src) → Stage (freed-box s t n p b) (sweep-ghosts (b .state .dest) (swept-end b) z ds hs (b .state .tuple ∷ free))
+  freed-next : (z : ℕ) → ((a : ℕ) → b .state .live ≤ a → a < z → a < b .state .src) → Stage (freed-box s t n p b) (sweep-ghosts (b .state .dest) (swept-after b) z ds hs (b .state .tuple ∷ free))
       → Next b (scan-ghosts b ds hs free) (freed-box s t n p b)
   freed-next z below stage =
       record {
-        ghosts = sweep-ghosts (b .state .dest) (swept-end b) z ds hs (b .state .tuple ∷ free);
+        ghosts = sweep-ghosts (b .state .dest) (swept-after b) z ds hs (b .state .tuple ∷ free);
         inv = record {
           shape = shape-same b (freed-box s t n p b) freed-shape (v .shape);
           handles = handles-moved b (freed-box s t n p b) (scan-ghosts b ds hs free .plan) (freed-plan b ds hs) free (b .state .tuple ∷ free) (perm-ahead-free (b .state .tuple) ds hs free) refl freed-chain (v .handles);
@@ -109,16 +91,16 @@ module _ (b : Box) (ds hs free : List ℕ) (v : Inv b (scan-ghosts b ds hs free)
 -- ---- below live: the sweep goes on behind the tuple
 
 module _ (b : Box) (ds hs free : List ℕ) (v : Inv b (scan-ghosts b ds hs free)) (ph : b .state .phase ≡ 4) (mk : marked (b .state .tuple) b ≡ false) (below : b .state .src + size-of (b .state .tuple) b < b .state .live) where
-  released-stage : Stage (released-box b) (sweep-ghosts (b .state .dest) (swept-end b) (swept-end b) ds hs (b .state .tuple ∷ free))
+  released-stage : Stage (released-box b) (sweep-ghosts (b .state .dest) (swept-after b) (swept-after b) ds hs (b .state .tuple ∷ free))
   released-stage =
-      let more : swept-end b ≢ b .state .top = omega (arith, more-behind b ds hs free v mk below) in
-      let n : (ks : List ℕ) × (hs ≡ handle-of (word-at (swept-end b) b) ∷ ks) = next-tuple b (swept-end b) hs (b .state .top) (behind-laid b ds hs free v) more in
-      Stage.sweeping refl (unlisted (b .state .dest) (swept-end b) (swept-end b) ds hs (b .state .tuple ∷ free)) refl refl refl refl (n .0) (n .1)
+      let more : swept-after b ≢ b .state .top = omega (arith, more-behind b ds hs free v mk below) in
+      let n : (ks : List ℕ) × (hs ≡ handle-of (word-at (swept-after b) b) ∷ ks) = next-tuple b (swept-after b) hs (b .state .top) (behind-laid b ds hs free v) more in
+      Stage.sweeping refl (unlisted (b .state .dest) (swept-after b) (swept-after b) ds hs (b .state .tuple ∷ free)) refl refl refl refl (n .0) (n .1)
 
   releases-at : Next b (scan-ghosts b ds hs free) (released-box b)
   releases-at =
-      freed-next b ds hs free v ph mk (swept-end b) (handle-of (word-at (swept-end b) b)) (b .state .index) 4 (omega arith)
-      (λ h i. word-early h i (released-box b) (omega arith)) (swept-end b) (λ a l u. omega arith) released-stage
+      freed-next b ds hs free v ph mk (swept-after b) (handle-of (word-at (swept-after b) b)) (b .state .index) 4 (omega arith)
+      (λ h i. word-early h i (released-box b) (omega arith)) (swept-after b) (λ a l u. omega arith) released-stage
 
 pub releases : (b : Box) (g : Ghosts) → Inv b g → b .state .phase ≡ 4 → marked (b .state .tuple) b ≡ false → b .state .src + size-of (b .state .tuple) b < b .state .live → Next b g (released-box b)
 releases b g v ph mk below =
@@ -128,9 +110,9 @@ releases b g v ph mk below =
 -- ---- at or past live: its words from live on are to be data 0
 
 module _ (b : Box) (ds hs free : List ℕ) (v : Inv b (scan-ghosts b ds hs free)) (ph : b .state .phase ≡ 4) (mk : marked (b .state .tuple) b ≡ false) (reached : b .state .live ≤ b .state .src + size-of (b .state .tuple) b) where
-  zero-begun-stage : Stage (zero-begun-box b) (sweep-ghosts (b .state .dest) (swept-end b) (b .state .src + (b .state .live - b .state .src)) ds hs (b .state .tuple ∷ free))
+  zero-begun-stage : Stage (zero-begun-box b) (sweep-ghosts (b .state .dest) (swept-after b) (b .state .src + (b .state .live - b .state .src)) ds hs (b .state .tuple ∷ free))
   zero-begun-stage =
-      Stage.zeroing refl (unlisted (b .state .dest) (swept-end b) (b .state .src + (b .state .live - b .state .src)) ds hs (b .state .tuple ∷ free)) refl refl refl (dest-below-src b ds hs free v) (omega arith) refl
+      Stage.zeroing refl (unlisted (b .state .dest) (swept-after b) (b .state .src + (b .state .live - b .state .src)) ds hs (b .state .tuple ∷ free)) refl refl refl (dest-below-src b ds hs free v) (omega arith) refl
 
   starts-zero-at : Next b (scan-ghosts b ds hs free) (zero-begun-box b)
   starts-zero-at =

@@ -15,10 +15,7 @@ use Rattle.history.proofs.Invariant.Statement.{Inv, Control, Laid, mark
 use Rattle.history.proofs.Lists.Handles.{member-right, member-cases, member-differs, Parts, parts}
 use Rattle.history.proofs.Lists.Laid.{laid-le, laid-rooms, marked-rooms-marked, marked-rooms-unmarked, marked-rooms-le}
 use Rattle.history.proofs.Sweep.Ghosts.{scan-ghosts, rooms-none, live-swept}
-
--- where the tuple under the sweep ends
-abbrev pub swept-end : Box → ℕ
-swept-end b = b .state .src + size-of (b .state .tuple) b + 1
+use Rattle.history.proofs.View.Boxes.{swept-after}
 
 module _ (b : Box) (ds hs free : List ℕ) (v : Inv b (scan-ghosts b ds hs free)) where
   -- ---- its entry
@@ -54,11 +51,11 @@ module _ (b : Box) (ds hs free : List ℕ) (v : Inv b (scan-ghosts b ds hs free)
   pub control-at-src : Control (word-at (b .state .src) b) (b .state .tuple)
   control-at-src = v .layout .ahead-laid .1
 
-  pub behind-laid : Laid b (swept-end b) hs (b .state .top)
+  pub behind-laid : Laid b (swept-after b) hs (b .state .top)
   behind-laid = v .layout .ahead-laid .2
 
-  pub end-below-top : swept-end b ≤ b .state .top
-  end-below-top = laid-le b (swept-end b) hs (b .state .top) behind-laid
+  pub end-below-top : swept-after b ≤ b .state .top
+  end-below-top = laid-le b (swept-after b) hs (b .state .top) behind-laid
 
   pub dest-below-src : b .state .dest ≤ b .state .src
   dest-below-src = omega (arith, v .layout .low-base, rooms-none b)
@@ -72,8 +69,8 @@ module _ (b : Box) (ds hs free : List ℕ) (v : Inv b (scan-ghosts b ds hs free)
   live-if-unmarked m = omega (arith, live-swept b (b .state .dest) (b .state .src) ds (b .state .tuple ∷ hs) free (v .marks), marked-rooms-unmarked b (b .state .tuple) hs m)
 
   -- an unmarked tuple that ends below live has another behind it
-  pub more-behind : marked (b .state .tuple) b ≡ false → b .state .src + size-of (b .state .tuple) b < b .state .live → swept-end b < b .state .top
-  more-behind m l = omega (arith, live-if-unmarked m, dest-below-src, marked-rooms-le b hs, laid-rooms b (swept-end b) hs (b .state .top) behind-laid)
+  pub more-behind : marked (b .state .tuple) b ≡ false → b .state .src + size-of (b .state .tuple) b < b .state .live → swept-after b < b .state .top
+  more-behind m l = omega (arith, live-if-unmarked m, dest-below-src, marked-rooms-le b hs, laid-rooms b (swept-after b) hs (b .state .top) behind-laid)
 
   -- ---- the marks, once its own is taken away
 

@@ -9,7 +9,7 @@ use mathlib.Core.Path.{_≡_, refl, sym, _∙_, ap, subst}
 use native.Mathlib.Decide.{ℕ-discrete, decLt}
 use native.Mathlib.Omega.{arith}
 use lib.ListN.{length-set}
-use Rattle.memory.specs.State.{with-top, with-phase, with-src, with-tuple, with-index}
+use Rattle.memory.specs.State.{with-phase, with-src, with-tuple, with-index}
 use Rattle.memory.specs.Box.{Box, data-word, handle-of, with-state, word-at, put, address, size-of, marked}
 use Rattle.memory.specs.Collector.{after, at-rest}
 use Rattle.history.specs.Agreement.{Member}
@@ -20,6 +20,7 @@ use Rattle.history.proofs.Lists.Laid.{laid-le, laid-bounds, laid-frame,
 use Rattle.history.proofs.Invariant.Frame.{SameShape, shape-same, handles-same, handles-moved, layout-same, marks-same, kept-same, Quiet, quiet-contents, quiet-calm, Next}
 use Rattle.history.proofs.Invariant.Resting.{resting-plan}
 use Rattle.history.proofs.Sweep.Ghosts.{no-scans, sweep-ghosts, unlisted, zero-ghosts, Zeroed, zeroed-view, next-at, Ended, ended-at, rooms-none, marked-rooms-nil, live-swept, kept-swept, plain-quiet, next-tuple}
+use Rattle.history.proofs.View.Boxes.{zeroed-last-box}
 
 -- ---- a word is put into memory
 
@@ -126,9 +127,6 @@ zero-on b g v ph past more =
     next-at b g (zero-ghosts b (s .settled-tuples) (s .behind-it) (s .free-handles)) (zero-on-box b) (s .are) (zero-on-at b (s .settled-tuples) (s .behind-it) (s .free-handles) (s .inv) ph through more)
 
 -- ---- it was the last: top is dest, and the cycle ends
-
-abbrev pub zeroed-last-box : Box → Box
-zeroed-last-box b = with-state (with-top (b .state .dest) (b .state)) b
 
 module _ (b : Box) (ds free : List ℕ) (v : Inv b (zero-ghosts b ds [] free)) (ph : b .state .phase ≡ 8) (order : b .state .dest ≤ b .state .src) (through : b .state .index ≡ b .state .size + 1) where
   zeroed-last-shape : SameShape b (zeroed-last-box b)

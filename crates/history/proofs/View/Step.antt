@@ -3,120 +3,19 @@
 -- the rule rewritten by the answers; `view` is complete because every test has two answers and a sound box has a phase up to 8.
 -- Assumes nothing.
 use Prim.Native.Nat.{ℕ, zero, suc, _+_, _-_, _≤_, _<_}
-use mathlib.Core.Bool.{Bool, true, false, cond, _||_}
+use mathlib.Core.Bool.{Bool, true, false, cond}
 use mathlib.Core.Logic.{_≢_, _⊎_, inl, inr}
 use mathlib.Core.Path.{_≡_, refl, sym, _∙_, subst}
 use native.Mathlib.Omega.{arith}
 use borrow.Author.Tests.{leb-true, lt-ltb, le-ltb, le-leb, lt-leb, eq-eqb, ne-eqb}
 use lib.Dec.{leb, ltb}
 use Rattle.memory.specs.Limits.{register-count, last-phase}
-use Rattle.memory.specs.State.{with-top, with-free, with-phase, with-live, with-current, with-next, with-src, with-dest, with-tuple, with-size, with-index, with-copy, with-copy-flag, with-begun}
-use Rattle.memory.specs.Box.{Box, reply, data-word, handle-of, names-tuple, with-state, word-at, put, register, size-of, marked, set-address, set-link, set-mark, right-sizes, sound}
+use Rattle.memory.specs.State.{with-next}
+use Rattle.memory.specs.Box.{Box, reply, handle-of, names-tuple, with-state, word-at, register, size-of, marked, right-sizes, sound}
 use Rattle.memory.specs.Place.{shade}
 use Rattle.memory.specs.Collector.{going, to-phase, after, end-cycle, note-begun, rest, scan, unmarked, damaged, nothing, look-register, look-from, begin-sweep, end-marking, mark-root, scan-next, mark-next, scan-word, scan-current, mark-scan, mark-add, go-on, keep-in-place, start-move, free-tuple, start-zero, release, sweep-tuple, sweep-scan, leave-tuple, settle-move, finish-move, copy-word, sweep-read, sweep-clear, write-copy, sweep-write, zero-word, sweep-zero, rule-of, step}
 use Rattle.history.proofs.View.Tests.{and-right, true-is-not-false, le?, lt?, eq?, true?, Entry, entry?, entry-true, entry-false, Shading, shading, shaded, unshaded, shade-lost, shade-total, can-shade-marked, can-shade-unmarked, can-shade-lost, can-shade-total, shade-marked}
-
--- ---- the boxes that the steps leave
-
--- 0: the cycle begins, and a hold notes it
-unfoldable pub rested : Box → Box
-rested b =
-    with-state
-    (with-live 0
-    (with-current 0 (with-next 0 (with-phase 1 (with-begun (b .state .held || b .state .begun) (b .state))))))
-    b
-
--- 2: the word under the scan is passed over, or names the tuple to be added
-unfoldable pub scanned-data : Box → Box
-scanned-data b = with-state (with-index (b .state .index + 1) (b .state)) b
-
-unfoldable pub scanned-pointer : Box → Box
-scanned-pointer b =
-    with-state
-    (with-index (b .state .index + 1)
-    (with-tuple (handle-of (word-at (b .state .src + b .state .index) b)) (with-phase 3 (b .state))))
-    b
-
--- 4: the size of the tuple at src, from its entry, and the word behind it
-abbrev pub swept-size : Box → ℕ
-swept-size b = size-of (b .state .tuple) b
-
-abbrev pub swept-after : Box → ℕ
-swept-after b = b .state .src + swept-size b + 1
-
--- the last tuple is kept in place
-unfoldable pub kept-last : Box → Box
-kept-last b = set-mark (b .state .tuple) false (with-state (with-size (swept-size b) (b .state)) b)
-
--- a tuple is kept in place, and another lies behind it
-unfoldable pub kept : Box → Box
-kept b =
-    set-mark (b .state .tuple) false
-    (with-state
-    (with-src (swept-after b)
-    (with-dest (swept-after b)
-    (with-tuple (handle-of (word-at (swept-after b) b)) (with-size (swept-size b) (with-phase 4 (b .state))))))
-    b)
-
--- a tuple begins to be moved
-unfoldable pub move-begun : Box → Box
-move-begun b =
-    set-mark (b .state .tuple) false
-    (with-state (with-size (swept-size b) (with-index 0 (with-phase 5 (b .state)))) b)
-
--- an unmarked tuple below live is freed, and the sweep goes on behind it
-unfoldable pub released : Box → Box
-released b =
-    set-link (b .state .tuple) (b .state .free)
-    (with-state
-    (with-free (b .state .tuple)
-    (with-src (swept-after b)
-    (with-tuple (handle-of (word-at (swept-after b) b)) (with-size (swept-size b) (with-phase 4 (b .state))))))
-    b)
-
--- an unmarked tuple that reaches live is freed, and its words from live on are to be zeroed
-unfoldable pub zero-begun : Box → Box
-zero-begun b =
-    set-link (b .state .tuple) (b .state .free)
-    (with-state
-    (with-free (b .state .tuple)
-    (with-size (swept-size b) (with-index (b .state .live - b .state .src) (with-phase 8 (b .state)))))
-    b)
-
--- 5: the word at src + index is in the copy register, and the phase is p
-unfoldable pub copied : ℕ → Box → Box
-copied p b =
-    with-state
-    (with-copy (word-at (b .state .src + b .state .index) b .bits)
-    (with-copy-flag (word-at (b .state .src + b .state .index) b .flag) (with-phase p (b .state))))
-    b
-
--- where the tuple being moved ends
-abbrev pub moved-end : Box → ℕ
-moved-end b = b .state .dest + b .state .size + 1
-
--- the last tuple has been moved
-unfoldable pub moved-last : Box → Box
-moved-last b =
-    set-address (b .state .tuple) (b .state .dest)
-    (with-state (with-top (moved-end b) (with-dest (moved-end b) (b .state))) b)
-
--- a tuple has been moved, and the sweep goes on behind where it was
-unfoldable pub moved : Box → Box
-moved b =
-    set-address (b .state .tuple) (b .state .dest)
-    (with-state
-    (with-dest (moved-end b)
-    (with-src (after b) (with-tuple (handle-of (word-at (after b) b)) (with-phase 4 (b .state)))))
-    b)
-
--- 6: the word copied is cleared where it was
-unfoldable pub cleared : Box → Box
-cleared b = to-phase 7 (put (b .state .src + b .state .index) (data-word 0) b)
-
--- 8: behind the last tuple zeroed, top is dest
-unfoldable pub zeroed-last : Box → Box
-zeroed-last b = with-state (with-top (b .state .dest) (b .state)) b
+use Rattle.history.proofs.View.Boxes.{rested-box, scanned-data-box, scanned-pointer-box, kept-last-box, kept-box, move-begun-box, released-box, zero-begun-box, copied-box, moved-last-box, moved-box, cleared-box, zeroed-last-box, swept-size, swept-after, moved-end}
 
 -- ---- the transitions
 
@@ -161,7 +60,7 @@ pub data Step (b : Box) : Type 0 where
   unsound : sound b ≡ false → step b ≡ reply b 9 → Step b
   nine : sound b ≡ true → Reason b → step b ≡ reply b 9 → Step b
   -- 0
-  rests : sound b ≡ true → b .state .phase ≡ 0 → step b ≡ going (rested b) → Step b
+  rests : sound b ≡ true → b .state .phase ≡ 0 → step b ≡ going (rested-box b) → Step b
   -- 1
   takes-next : sound b ≡ true → b .state .phase ≡ 1 → b .state .next ≢ 0 → Entry (b .state .next) b
       → step b ≡ going (scan (b .state .next) (with-state (with-next 0 (b .state)) b)) → Step b
@@ -175,9 +74,9 @@ pub data Step (b : Box) : Type 0 where
       → step b ≡ going (begin-sweep b) → Step b
   -- 2
   scans-data : sound b ≡ true → b .state .phase ≡ 2 → b .state .index ≤ b .state .size → b .state .src + b .state .index < b .state .m
-      → names-tuple (word-at (b .state .src + b .state .index) b) ≡ false → step b ≡ going (scanned-data b) → Step b
+      → names-tuple (word-at (b .state .src + b .state .index) b) ≡ false → step b ≡ going (scanned-data-box b) → Step b
   scans-pointer : sound b ≡ true → b .state .phase ≡ 2 → b .state .index ≤ b .state .size → b .state .src + b .state .index < b .state .m
-      → names-tuple (word-at (b .state .src + b .state .index) b) ≡ true → step b ≡ going (scanned-pointer b) → Step b
+      → names-tuple (word-at (b .state .src + b .state .index) b) ≡ true → step b ≡ going (scanned-pointer-box b) → Step b
   scan-ends : sound b ≡ true → b .state .phase ≡ 2 → b .state .size < b .state .index → b .state .current ≡ 0
       → step b ≡ going (to-phase 1 b) → Step b
   takes-current : sound b ≡ true → b .state .phase ≡ 2 → b .state .size < b .state .index → b .state .current ≢ 0 → Entry (b .state .current) b
@@ -189,43 +88,43 @@ pub data Step (b : Box) : Type 0 where
       → b .state .live + size-of (b .state .tuple) b + 1 ≤ b .state .m → step b ≡ going (to-phase 2 (shade (b .state .tuple) b)) → Step b
   -- 4
   keeps-last : sound b ≡ true → b .state .phase ≡ 4 → Entry (b .state .tuple) b → swept-after b ≤ b .state .m → marked (b .state .tuple) b ≡ true
-      → b .state .src ≡ b .state .dest → swept-after b ≡ b .state .top → step b ≡ end-cycle b (kept-last b) → Step b
+      → b .state .src ≡ b .state .dest → swept-after b ≡ b .state .top → step b ≡ end-cycle b (kept-last-box b) → Step b
   keeps : sound b ≡ true → b .state .phase ≡ 4 → Entry (b .state .tuple) b → swept-after b ≤ b .state .m → marked (b .state .tuple) b ≡ true
-      → b .state .src ≡ b .state .dest → swept-after b ≢ b .state .top → swept-after b < b .state .m → step b ≡ going (kept b) → Step b
+      → b .state .src ≡ b .state .dest → swept-after b ≢ b .state .top → swept-after b < b .state .m → step b ≡ going (kept-box b) → Step b
   starts-move : sound b ≡ true → b .state .phase ≡ 4 → Entry (b .state .tuple) b → swept-after b ≤ b .state .m → marked (b .state .tuple) b ≡ true
-      → b .state .src ≢ b .state .dest → step b ≡ going (move-begun b) → Step b
+      → b .state .src ≢ b .state .dest → step b ≡ going (move-begun-box b) → Step b
   releases : sound b ≡ true → b .state .phase ≡ 4 → Entry (b .state .tuple) b → swept-after b ≤ b .state .m → marked (b .state .tuple) b ≡ false
-      → b .state .src + swept-size b < b .state .live → swept-after b < b .state .m → step b ≡ going (released b) → Step b
+      → b .state .src + swept-size b < b .state .live → swept-after b < b .state .m → step b ≡ going (released-box b) → Step b
   starts-zero : sound b ≡ true → b .state .phase ≡ 4 → Entry (b .state .tuple) b → swept-after b ≤ b .state .m → marked (b .state .tuple) b ≡ false
-      → b .state .live ≤ b .state .src + swept-size b → step b ≡ going (zero-begun b) → Step b
+      → b .state .live ≤ b .state .src + swept-size b → step b ≡ going (zero-begun-box b) → Step b
   -- 5
   copies-low : sound b ≡ true → b .state .phase ≡ 5 → b .state .index ≤ b .state .size → b .state .src + b .state .index < b .state .m
-      → b .state .src + b .state .index < b .state .live → step b ≡ going (copied 7 b) → Step b
+      → b .state .src + b .state .index < b .state .live → step b ≡ going (copied-box 7 b) → Step b
   copies-high : sound b ≡ true → b .state .phase ≡ 5 → b .state .index ≤ b .state .size → b .state .src + b .state .index < b .state .m
-      → b .state .live ≤ b .state .src + b .state .index → step b ≡ going (copied 6 b) → Step b
+      → b .state .live ≤ b .state .src + b .state .index → step b ≡ going (copied-box 6 b) → Step b
   ends-move : sound b ≡ true → b .state .phase ≡ 5 → b .state .size < b .state .index → Entry (b .state .tuple) b → moved-end b ≤ b .state .m
-      → after b ≤ b .state .m → after b ≡ b .state .top → step b ≡ end-cycle b (moved-last b) → Step b
+      → after b ≤ b .state .m → after b ≡ b .state .top → step b ≡ end-cycle b (moved-last-box b) → Step b
   moves-on : sound b ≡ true → b .state .phase ≡ 5 → b .state .size < b .state .index → Entry (b .state .tuple) b → moved-end b ≤ b .state .m
-      → after b ≢ b .state .top → after b < b .state .m → step b ≡ going (moved b) → Step b
+      → after b ≢ b .state .top → after b < b .state .m → step b ≡ going (moved-box b) → Step b
   -- 6
-  clears : sound b ≡ true → b .state .phase ≡ 6 → b .state .src + b .state .index < b .state .m → step b ≡ going (cleared b) → Step b
+  clears : sound b ≡ true → b .state .phase ≡ 6 → b .state .src + b .state .index < b .state .m → step b ≡ going (cleared-box b) → Step b
   -- 7
   writes : sound b ≡ true → b .state .phase ≡ 7 → b .state .dest + b .state .index < b .state .m → step b ≡ going (write-copy b) → Step b
   -- 8
   zeroes : sound b ≡ true → b .state .phase ≡ 8 → b .state .index ≤ b .state .size → b .state .src + b .state .index < b .state .m
       → step b ≡ going (zero-word b) → Step b
   zero-ends : sound b ≡ true → b .state .phase ≡ 8 → b .state .size < b .state .index → after b ≤ b .state .m → after b ≡ b .state .top
-      → step b ≡ end-cycle b (zeroed-last b) → Step b
+      → step b ≡ end-cycle b (zeroed-last-box b) → Step b
   zero-on : sound b ≡ true → b .state .phase ≡ 8 → b .state .size < b .state .index → after b ≢ b .state .top → after b < b .state .m
       → step b ≡ going (go-on (after b) b) → Step b
 
 -- ---- 0 Rest
 
-rest-is : (b : Box) → rest b ≡ going (rested b)
-unfolding rest note-begun rested
+rest-is : (b : Box) → rest b ≡ going (rested-box b)
+unfolding rest note-begun
 rest-is b = go (b .state .held) refl
   where
-    go : (t : Bool) → b .state .held ≡ t → rest b ≡ going (rested b)
+    go : (t : Bool) → b .state .held ≡ t → rest b ≡ going (rested-box b)
     go true e = simp e
     go false e = simp e
 
@@ -305,7 +204,7 @@ mark-next-view b s p st = by-next (eq? (b .state .next) 0)
 -- ---- 2 Mark scan
 
 mark-scan-view : (b : Box) → sound b ≡ true → b .state .phase ≡ 2 → step b ≡ mark-scan b → Step b
-unfolding mark-scan scan-word scan-current scanned-data scanned-pointer
+unfolding mark-scan scan-word scan-current
 mark-scan-view b s p st = by-index (le? (b .state .index) (b .state .size))
   where
     by-word : b .state .index ≤ b .state .size → b .state .src + b .state .index < b .state .m
@@ -356,7 +255,7 @@ first-zero src live = go (lt? src live)
     go (inr l) = simp (le-ltb src live l) (omega arith)
 
 sweep-scan-view : (b : Box) → sound b ≡ true → b .state .phase ≡ 4 → step b ≡ sweep-scan b → Step b
-unfolding sweep-scan sweep-tuple keep-in-place start-move release go-on free-tuple start-zero kept-last kept move-begun released zero-begun
+unfolding sweep-scan sweep-tuple keep-in-place start-move release go-on free-tuple start-zero
 sweep-scan-view b s p st = by-entry (entry? (b .state .tuple) b)
   where
     by-top : Entry (b .state .tuple) b → swept-after b ≤ b .state .m → marked (b .state .tuple) b ≡ true → b .state .src ≡ b .state .dest
@@ -405,7 +304,7 @@ sweep-scan-view b s p st = by-entry (entry? (b .state .tuple) b)
 -- ---- 5 Sweep read
 
 sweep-read-view : (b : Box) → sound b ≡ true → b .state .phase ≡ 5 → step b ≡ sweep-read b → Step b
-unfolding sweep-read copy-word finish-move leave-tuple settle-move go-on copied moved-last moved
+unfolding sweep-read copy-word finish-move leave-tuple settle-move go-on
 sweep-read-view b s p st = by-index (le? (b .state .index) (b .state .size))
   where
     by-live : b .state .index ≤ b .state .size → b .state .src + b .state .index < b .state .m
@@ -456,7 +355,7 @@ sweep-read-view b s p st = by-index (le? (b .state .index) (b .state .size))
 -- ---- 6 Sweep clear, 7 Sweep write
 
 sweep-clear-view : (b : Box) → sound b ≡ true → b .state .phase ≡ 6 → step b ≡ sweep-clear b → Step b
-unfolding sweep-clear cleared
+unfolding sweep-clear
 sweep-clear-view b s p st = go (lt? (b .state .src + b .state .index) (b .state .m))
   where
     go : (b .state .src + b .state .index < b .state .m) ⊎ (b .state .m ≤ b .state .src + b .state .index) → Step b
@@ -474,7 +373,7 @@ sweep-write-view b s p st = go (lt? (b .state .dest + b .state .index) (b .state
 -- ---- 8 Sweep zero
 
 sweep-zero-view : (b : Box) → sound b ≡ true → b .state .phase ≡ 8 → step b ≡ sweep-zero b → Step b
-unfolding sweep-zero leave-tuple zeroed-last
+unfolding sweep-zero leave-tuple
 sweep-zero-view b s p st = by-index (le? (b .state .index) (b .state .size))
   where
     by-address : b .state .index ≤ b .state .size → (b .state .src + b .state .index < b .state .m) ⊎ (b .state .m ≤ b .state .src + b .state .index) → Step b
