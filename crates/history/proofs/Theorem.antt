@@ -35,7 +35,14 @@ use Rattle.history.proofs.Good.Steps.{After, GoodRun, good-run}
 opened-related : (m h : ℕ) (free : List ℕ) → Related (opened m h) (resting-plan []) fresh [] (λ x. 0)
 unfolding opened opened-state fresh
 opened-related m h free =
-    record { roots-match = roots; kept-hold = λ x k. absurd (none-kept (opened m h) x k); nil-number = refl; all-given = refl; given-entry = λ i l u. absurd (omega arith); number-latest = λ i l u. absurd (omega arith) }
+    record {
+      roots-match = roots;
+      kept-hold = λ x k. absurd (none-kept (opened m h) x k);
+      nil-number = refl;
+      all-given = refl;
+      given-entry = λ i l u. absurd (omega arith);
+      number-latest = λ i l u. absurd (omega arith);
+    }
   where
     roots : (r : ℕ) → r < register-count → Match (λ x. 0) (register r (opened m h)) (register-of r fresh)
     roots r l = subst (λ (v : HWord). Match (λ x. 0) (register r (opened m h)) v) (sym (getD-replicate register-count r (datum 0) (datum 0) l)) (subst (λ (w : Word). Match (λ x. 0) w (datum 0)) (sym zero-then) (refl, refl))
@@ -46,7 +53,18 @@ opened-related m h free =
 opened-good : (m h : ℕ) → Inv (opened m h) (resting [] (handles-below h)) → Good m h (opened m h) fresh empty-log
 unfolding opened opened-state fresh
 opened-good m h v =
-    record { m-is = refl; h-is = refl; ghosts = resting [] (handles-below h); inv = v; number = λ x. 0; related = opened-related m h (handles-below h); eight = registers-fresh; cycling = between refl refl; waiting = nothing-held refl refl refl; past = record { swept = tt; justly = tt; in-time = tt; bounded = tt } }
+    record {
+      m-is = refl;
+      h-is = refl;
+      ghosts = resting [] (handles-below h);
+      inv = v;
+      number = λ x. 0;
+      related = opened-related m h (handles-below h);
+      eight = registers-fresh;
+      cycling = between refl refl;
+      waiting = nothing-held refl refl refl;
+      past = record { swept = tt; justly = tt; in-time = tt; bounded = tt };
+    }
 
 pub good-open : (m h : ℕ) (b : Box) → opening m h b .answer ≡ 0 → Good m h (opening m h b .box) fresh empty-log
 good-open m h b e = subst (λ (r : Reply). Good m h (r .box) fresh empty-log) (sym (opened-by m h b e .1)) start-good
@@ -70,7 +88,11 @@ unfolding after-step feed
 stepping m h w k a = go a
   where
     by : (x : ℕ) → step (w .box) .answer ≡ x → x ≢ 9 → Good m h (step (w .box) .box) (feed single-step x (w .history)) (log-step (w .box) (step (w .box)) (w .history) (w .log)) → GoodWorld m h (after-step (step (w .box)) w)
-    by x e n g = record { good = subst (λ (y : ℕ). Good m h (step (w .box) .box) (feed single-step y (w .history)) (log-step (w .box) (step (w .box)) (w .history) (w .log))) (sym e) g; never-nine = (λ z. n (sym e ∙ z), k .never-nine) }
+    by x e n g =
+        record {
+          good = subst (λ (y : ℕ). Good m h (step (w .box) .box) (feed single-step y (w .history)) (log-step (w .box) (step (w .box)) (w .history) (w .log))) (sym e) g;
+          never-nine = (λ z. n (sym e ∙ z), k .never-nine);
+        }
 
     go : After m h (w .box) (w .history) (w .log) (step (w .box)) → GoodWorld m h (after-step (step (w .box)) w)
     go (After.on (inl e) g) = by 30 e (omega arith) g
@@ -110,9 +132,21 @@ in-time m h w k = record { not-yet = go (k .waiting); by-then = k .past .in-time
 
 seven-parts : (m h : ℕ) (w : World) → GoodWorld m h w → Demand3 m h w
 seven-parts m h w k =
-    record { agreement = agree (w .box) (k .good .ghosts .plan) (w .history) (w .log .given) (k .good .number) (k .good .related) (k .good .inv .contents); never-nine = k .never-nine; dead-tuples-gone = k .good .past .swept; holds-justly-answered = k .good .past .justly; holds-in-time = in-time m h w (k .good); rest-sum = rest-sum w (k .good .ghosts) (k .good .number) (k .good .inv) (k .good .related); zero-above-top = words-above-top (w .box) (k .good .ghosts) (k .good .inv); cycles-bounded = k .good .past .bounded }
+    record {
+      agreement = agree (w .box) (k .good .ghosts .plan) (w .history) (w .log .given) (k .good .number) (k .good .related) (k .good .inv .contents);
+      never-nine = k .never-nine;
+      dead-tuples-gone = k .good .past .swept;
+      holds-justly-answered = k .good .past .justly;
+      holds-in-time = in-time m h w (k .good);
+      rest-sum = rest-sum w (k .good .ghosts) (k .good .number) (k .good .inv) (k .good .related);
+      zero-above-top = words-above-top (w .box) (k .good .ghosts) (k .good .inv);
+      cycles-bounded = k .good .past .bounded;
+    }
 
 -- ---- the theorem
 
 pub demand3 : Demand3Claim
-demand3 m h b e calls u = seven-parts m h (play calls (start (opening m h b .box))) (good-play m h calls (start (opening m h b .box)) u (record { good = good-open m h b e; never-nine = tt }))
+demand3 m h b e calls u = seven-parts m h (play calls (start (opening m h b .box))) (good-play m h calls (start (opening m h b .box)) u (record {
+  good = good-open m h b e;
+  never-nine = tt;
+}))

@@ -16,7 +16,26 @@ use Rattle.history.proofs.View.Tests.{Room}
 -- a new tuple, and then what leaves tuples and registers alone
 pub made-then : (b : Box) (p : Plan) (c : Box) (q : Plan) (e : Box) (r n tag : ℕ) → Made b p c q r n tag → Quiet c q e q → e .state .h ≡ c .state .h → Made b p e q r n tag
 made-then b p c q e r n tag m s z =
-    record { kept-to = λ h k. m .kept-to h (s .kept-to h k); kept-from = λ h k. s .kept-from h (m .kept-from h k); made-kept = s .kept-from (b .state .free) (m .made-kept); was-free = m .was-free; handle-not-nil = m .handle-not-nil; handle-below = m .handle-below; h-same = z ∙ m .h-same; made-size = size; made-control = index-zero ∙ m .made-control; made-tag = ap (λ (w : Word). tag-of w) index-zero ∙ m .made-tag; made-words = λ k l. s .words-same (b .state .free) (m .made-kept) (k + 1) (omega (arith, m .made-size)) ∙ m .made-words k l; made-deep = s .deeps-same (b .state .free) (m .made-kept) ∙ m .made-deep; register-made = s .roots-same r ∙ m .register-made; made-handle = ap (λ (w : Word). handle-of w) (s .roots-same r) ∙ m .made-handle; registers-same = λ x d. s .roots-same x ∙ m .registers-same x d; sizes-same = λ h k. s .sizes-same h (m .kept-from h k) ∙ m .sizes-same h k; words-same = λ h k i l. s .words-same h (m .kept-from h k) i (subst (λ (z : ℕ). i ≤ z) (sym (m .sizes-same h k)) l) ∙ m .words-same h k i l; deeps-same = λ h k. s .deeps-same h (m .kept-from h k) ∙ m .deeps-same h k }
+    record {
+      kept-to = λ h k. m .kept-to h (s .kept-to h k);
+      kept-from = λ h k. s .kept-from h (m .kept-from h k);
+      made-kept = s .kept-from (b .state .free) (m .made-kept);
+      was-free = m .was-free;
+      handle-not-nil = m .handle-not-nil;
+      handle-below = m .handle-below;
+      h-same = z ∙ m .h-same;
+      made-size = size;
+      made-control = index-zero ∙ m .made-control;
+      made-tag = ap (λ (w : Word). tag-of w) index-zero ∙ m .made-tag;
+      made-words = λ k l. s .words-same (b .state .free) (m .made-kept) (k + 1) (omega (arith, m .made-size)) ∙ m .made-words k l;
+      made-deep = s .deeps-same (b .state .free) (m .made-kept) ∙ m .made-deep;
+      register-made = s .roots-same r ∙ m .register-made;
+      made-handle = ap (λ (w : Word). handle-of w) (s .roots-same r) ∙ m .made-handle;
+      registers-same = λ x d. s .roots-same x ∙ m .registers-same x d;
+      sizes-same = λ h k. s .sizes-same h (m .kept-from h k) ∙ m .sizes-same h k;
+      words-same = λ h k i l. s .words-same h (m .kept-from h k) i (subst (λ (z : ℕ). i ≤ z) (sym (m .sizes-same h k)) l) ∙ m .words-same h k i l;
+      deeps-same = λ h k. s .deeps-same h (m .kept-from h k) ∙ m .deeps-same h k;
+    }
   where
     size : size-of (b .state .free) e ≡ n
     size = s .sizes-same (b .state .free) (m .made-kept) ∙ m .made-size

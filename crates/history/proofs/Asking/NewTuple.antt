@@ -75,13 +75,61 @@ new-shape : (b : Box) → Shape b → (r n tag : ℕ) → Shape (new-tuple r n t
 unfolding new-tuple take-room new-entry
 new-shape b s r n tag =
     shape-same b (new-tuple r n tag b)
-    (record { m-same = refl; h-same = refl; words-same = length-set (b .words) (b .state .top) (control-word (b .state .free) tag .bits); flags-same = length-set (b .flags) (b .state .top) false; addresses-same = length-set (b .addresses) (b .state .free) (b .state .top); sizes-same = length-set (b .sizes) (b .state .free) n; links-same = refl; marks-same = length-set (b .marks) (b .state .free) (collecting b); deeps-same = length-set (b .deeps) (b .state .free) false; registers-same = length-set (b .state .registers) r (pointer (b .state .free) 0 .bits); register-flags-same = length-set (b .state .flags) r true; held-same = λ e. (e, refl) })
+    (record {
+      m-same = refl;
+      h-same = refl;
+      words-same = length-set (b .words) (b .state .top) (control-word (b .state .free) tag .bits);
+      flags-same = length-set (b .flags) (b .state .top) false;
+      addresses-same = length-set (b .addresses) (b .state .free) (b .state .top);
+      sizes-same = length-set (b .sizes) (b .state .free) n;
+      links-same = refl;
+      marks-same = length-set (b .marks) (b .state .free) (collecting b);
+      deeps-same = length-set (b .deeps) (b .state .free) false;
+      registers-same = length-set (b .state .registers) r (pointer (b .state .free) 0 .bits);
+      register-flags-same = length-set (b .state .flags) r true;
+      held-same = λ e. (e, refl);
+    })
     s
 
 pub new-box : (b : Box) → Shape b → (r n tag : ℕ) → r < register-count → b .state .free < b .state .h → b .state .top + n + 1 ≤ b .state .m → New b (new-tuple r n tag b) r n tag
 unfolding new-tuple take-room new-entry collecting
 new-box b s r n tag l u t =
-    record { shape = new-shape b s r n tag; address-new = getD-set-same (b .addresses) (b .state .free) (b .state .top) 0 (omega (arith, s .addresses-length)); address-other = λ h d. getD-set-other (b .addresses) (b .state .free) h (b .state .top) 0 d; size-new = getD-set-same (b .sizes) (b .state .free) n 0 (omega (arith, s .sizes-length)); size-other = λ h d. getD-set-other (b .sizes) (b .state .free) h n 0 d; mark-new = getD-set-same (b .marks) (b .state .free) (collecting b) false (omega (arith, s .marks-length)); mark-other = λ h d. getD-set-other (b .marks) (b .state .free) h (collecting b) false d; deep-new = getD-set-same (b .deeps) (b .state .free) false false (omega (arith, s .deeps-length)); deep-other = λ h d. getD-set-other (b .deeps) (b .state .free) h false false d; word-new = λ i. record { bits = getD-set-same (b .words) (b .state .top) (control-word (b .state .free) tag .bits) 0 (omega (arith, s .words-length)) i; flag = getD-set-same (b .flags) (b .state .top) false false (omega (arith, s .flags-length)) i }; word-other = λ a d i. record { bits = getD-set-other (b .words) (b .state .top) a (control-word (b .state .free) tag .bits) 0 d i; flag = getD-set-other (b .flags) (b .state .top) a false false d i }; register-new = λ i. record { bits = getD-set-same (b .state .registers) r (pointer (b .state .free) 0 .bits) 0 (omega (arith, s .registers-length)) i; flag = getD-set-same (b .state .flags) r true false (omega (arith, s .register-flags-length)) i }; register-other = λ x d i. record { bits = getD-set-other (b .state .registers) r x (pointer (b .state .free) 0 .bits) 0 d i; flag = getD-set-other (b .state .flags) r x true false d i }; copy-same = refl; links-same = refl; m-same = refl; h-same = refl; top-new = refl; free-new = refl; phase-same = refl; live-new = refl; current-same = refl; next-same = refl; src-same = refl; dest-same = refl; tuple-same = refl; entry-size-same = refl; index-same = refl }
+    record {
+      shape = new-shape b s r n tag;
+      address-new = getD-set-same (b .addresses) (b .state .free) (b .state .top) 0 (omega (arith, s .addresses-length));
+      address-other = λ h d. getD-set-other (b .addresses) (b .state .free) h (b .state .top) 0 d;
+      size-new = getD-set-same (b .sizes) (b .state .free) n 0 (omega (arith, s .sizes-length));
+      size-other = λ h d. getD-set-other (b .sizes) (b .state .free) h n 0 d;
+      mark-new = getD-set-same (b .marks) (b .state .free) (collecting b) false (omega (arith, s .marks-length));
+      mark-other = λ h d. getD-set-other (b .marks) (b .state .free) h (collecting b) false d;
+      deep-new = getD-set-same (b .deeps) (b .state .free) false false (omega (arith, s .deeps-length));
+      deep-other = λ h d. getD-set-other (b .deeps) (b .state .free) h false false d;
+      word-new = λ i. record { bits = getD-set-same (b .words) (b .state .top) (control-word (b .state .free) tag .bits) 0 (omega (arith, s .words-length)) i; flag = getD-set-same (b .flags) (b .state .top) false false (omega (arith, s .flags-length)) i };
+      word-other = λ a d i. record {
+        bits = getD-set-other (b .words) (b .state .top) a (control-word (b .state .free) tag .bits) 0 d i;
+        flag = getD-set-other (b .flags) (b .state .top) a false false d i;
+      };
+      register-new = λ i. record { bits = getD-set-same (b .state .registers) r (pointer (b .state .free) 0 .bits) 0 (omega (arith, s .registers-length)) i; flag = getD-set-same (b .state .flags) r true false (omega (arith, s .register-flags-length)) i };
+      register-other = λ x d i. record {
+        bits = getD-set-other (b .state .registers) r x (pointer (b .state .free) 0 .bits) 0 d i;
+        flag = getD-set-other (b .state .flags) r x true false d i;
+      };
+      copy-same = refl;
+      links-same = refl;
+      m-same = refl;
+      h-same = refl;
+      top-new = refl;
+      free-new = refl;
+      phase-same = refl;
+      live-new = refl;
+      current-same = refl;
+      next-same = refl;
+      src-same = refl;
+      dest-same = refl;
+      tuple-same = refl;
+      entry-size-same = refl;
+      index-same = refl;
+    }
 
 -- ---- the free handle is new
 
@@ -233,7 +281,13 @@ module _ (b : Box) (g : Ghosts) (c : Box) (r n tag : ℕ) (v : Inv b g) (d : b .
       (handles-moved b c (g .plan) (made-plan (g .plan) (b .state .free)) (b .state .free ∷ new-free .0) (new-free .0) (perm-free-ahead (b .state .free) (g .plan .done) (g .plan .mid) (g .plan .ahead) (new-free .0)) (u .h-same) (subst (λ (ls : List ℕ). Chain ls (c .state .free) (new-free .0)) (sym (u .links-same)) (subst (λ (k : ℕ). Chain (b .links) k (new-free .0)) (sym (u .free-new)) (new-free .2))) (subst (λ (hs : List ℕ). Handles b (g .plan) hs) (new-free .1) (v .handles)))
 
   new-layout : Layout c (made-plan (g .plan) (b .state .free))
-  new-layout = record { done-laid = laid-frame b c 0 (g .plan .done) (g .plan .low) (λ h x. u .address-other h (done-differs h x)) (λ h x. u .size-other h (done-differs h x)) done-control (v .layout .done-laid); ahead-laid = laid-to c (g .plan .base) (g .plan .ahead ++ (b .state .free ∷ [])) (b .state .top + size-of (b .state .free) c + 1) (c .state .top) (omega (arith, u .size-new, u .top-new)) (laid-snoc c (g .plan .base) (g .plan .ahead) (b .state .top) (b .state .free) ahead-before (u .address-new) control); low-base = rw (rooms-frame b c (g .plan .mid) (λ h x. u .size-other h (mid-differs h x))) (v .layout .low-base); top-fits = omega (arith, u .top-new, u .m-same) }
+  new-layout =
+      record {
+        done-laid = laid-frame b c 0 (g .plan .done) (g .plan .low) (λ h x. u .address-other h (done-differs h x)) (λ h x. u .size-other h (done-differs h x)) done-control (v .layout .done-laid);
+        ahead-laid = laid-to c (g .plan .base) (g .plan .ahead ++ (b .state .free ∷ [])) (b .state .top + size-of (b .state .free) c + 1) (c .state .top) (omega (arith, u .size-new, u .top-new)) (laid-snoc c (g .plan .base) (g .plan .ahead) (b .state .top) (b .state .free) ahead-before (u .address-new) control);
+        low-base = rw (rooms-frame b c (g .plan .mid) (λ h x. u .size-other h (mid-differs h x))) (v .layout .low-base);
+        top-fits = omega (arith, u .top-new, u .m-same);
+      }
     where
       done-control : (h : ℕ) → Member h (g .plan .done) → word-at (address h b) c ≡ word-at (address h b) b
       done-control h x =
@@ -315,7 +369,20 @@ module _ (b : Box) (g : Ghosts) (c : Box) (r n tag : ℕ) (v : Inv b g) (d : b .
       )
 
   new-marks : Marks c (made-plan (g .plan) (b .state .free)) (rest-of (g .free)) (g .scans)
-  new-marks = record { free-unmarked = λ h x. u .mark-other h (rest-free h x .0) ∙ v .marks .free-unmarked h (rest-free h x .1); done-unmarked = λ h x. u .mark-other h (done-differs h x) ∙ v .marks .done-unmarked h x; mid-unmarked = λ h x. u .mark-other h (mid-differs h x) ∙ v .marks .mid-unmarked h x; live-is = new-live (collecting b) refl; nexts-chain = rw (u .links-same, u .next-same) (v .marks .nexts-chain); currents-chain = rw (u .links-same, u .current-same) (v .marks .currents-chain); listed-distinct = v .marks .listed-distinct; listed-ahead = λ h x. member-left h (g .plan .ahead) (b .state .free ∷ []) (v .marks .listed-ahead h x); listed-marked = λ h x. mark-stays h (v .marks .listed-marked h x); listed-deep = λ h x. u .deep-other h (ahead-differs h (v .marks .listed-ahead h x)) ∙ v .marks .listed-deep h x; black = dark }
+  new-marks =
+      record {
+        free-unmarked = λ h x. u .mark-other h (rest-free h x .0) ∙ v .marks .free-unmarked h (rest-free h x .1);
+        done-unmarked = λ h x. u .mark-other h (done-differs h x) ∙ v .marks .done-unmarked h x;
+        mid-unmarked = λ h x. u .mark-other h (mid-differs h x) ∙ v .marks .mid-unmarked h x;
+        live-is = new-live (collecting b) refl;
+        nexts-chain = rw (u .links-same, u .next-same) (v .marks .nexts-chain);
+        currents-chain = rw (u .links-same, u .current-same) (v .marks .currents-chain);
+        listed-distinct = v .marks .listed-distinct;
+        listed-ahead = λ h x. member-left h (g .plan .ahead) (b .state .free ∷ []) (v .marks .listed-ahead h x);
+        listed-marked = λ h x. mark-stays h (v .marks .listed-marked h x);
+        listed-deep = λ h x. u .deep-other h (ahead-differs h (v .marks .listed-ahead h x)) ∙ v .marks .listed-deep h x;
+        black = dark;
+      }
     where
       dark : c .state .phase ≤ 3 → (h : ℕ) → Member h (g .plan .ahead ++ (b .state .free ∷ [])) → marked h c ≡ true → ¬ Member h (listed (g .scans)) → (k : ℕ) → k < size-of h c → names-tuple (word h (k + 1) c) ≡ true → marked (handle-of (word h (k + 1) c)) c ≡ true
       dark p h x m o k y z = cases (last-member h (b .state .free) (g .plan .ahead) x)
@@ -342,14 +409,30 @@ module _ (b : Box) (g : Ghosts) (c : Box) (r n tag : ℕ) (v : Inv b g) (d : b .
   gray-ahead s e = v .marks .listed-ahead s (member-left s (g .scans .gray) (g .scans .nexts ++ g .scans .currents) (subst (λ (ks : List ℕ). Member s ks) (sym e) (inl refl)))
 
   new-scan : (s : ℕ) → Scan b g s → Scan c (made-ghosts g (b .state .free)) s
-  new-scan s y = record { gray-is = y .gray-is; src-is = u .address-other s (ahead-differs s (gray-ahead s (y .gray-is))) ∙ y .src-is ∙ sym (u .src-same); size-is = u .size-other s (ahead-differs s (gray-ahead s (y .gray-is))) ∙ y .size-is ∙ sym (u .entry-size-same); index-least = omega (arith, u .index-same, y .index-least); index-most = omega (arith, u .index-same, u .entry-size-same, y .index-most) }
+  new-scan s y =
+      record {
+        gray-is = y .gray-is;
+        src-is = u .address-other s (ahead-differs s (gray-ahead s (y .gray-is))) ∙ y .src-is ∙ sym (u .src-same);
+        size-is = u .size-other s (ahead-differs s (gray-ahead s (y .gray-is))) ∙ y .size-is ∙ sym (u .entry-size-same);
+        index-least = omega (arith, u .index-same, y .index-least);
+        index-most = omega (arith, u .index-same, u .entry-size-same, y .index-most);
+      }
 
   new-scanned : b .state .phase ≤ 3 → (s : ℕ) → Scan b g s → (k : ℕ) → k + 1 < c .state .index → word s (k + 1) c ≡ word s (k + 1) b
   new-scanned p s y k m = new-word-same s (unswept (gray-ahead s (y .gray-is)) p) (k + 1) (omega (arith, u .index-same))
 
   new-move : Move b g → Move c (made-ghosts g (b .state .free))
   new-move m =
-      record { unlisted = new-unlisted (m .unlisted); mid-is = m .mid-is ∙ ap (λ (k : ℕ). k ∷ []) (sym (u .tuple-same)); low-is = m .low-is ∙ sym (u .dest-same); base-is = omega (arith, m .base-is, u .src-same, u .entry-size-same); downward = omega (arith, m .downward, u .src-same, u .dest-same); src-is = subst (λ (k : ℕ). address k c ≡ c .state .src) (sym (u .tuple-same)) (u .address-other (b .state .tuple) other ∙ m .src-is ∙ sym (u .src-same)); size-is = subst (λ (k : ℕ). size-of k c ≡ c .state .size) (sym (u .tuple-same)) (u .size-other (b .state .tuple) other ∙ m .size-is ∙ sym (u .entry-size-same)); control = subst (λ (k : ℕ). Control (word k 0 c) k) (sym (u .tuple-same)) (subst (λ (z : Word). Control z (b .state .tuple)) (sym (new-word-same (b .state .tuple) (moving inside) 0 (omega arith))) (m .control)) }
+      record {
+        unlisted = new-unlisted (m .unlisted);
+        mid-is = m .mid-is ∙ ap (λ (k : ℕ). k ∷ []) (sym (u .tuple-same));
+        low-is = m .low-is ∙ sym (u .dest-same);
+        base-is = omega (arith, m .base-is, u .src-same, u .entry-size-same);
+        downward = omega (arith, m .downward, u .src-same, u .dest-same);
+        src-is = subst (λ (k : ℕ). address k c ≡ c .state .src) (sym (u .tuple-same)) (u .address-other (b .state .tuple) other ∙ m .src-is ∙ sym (u .src-same));
+        size-is = subst (λ (k : ℕ). size-of k c ≡ c .state .size) (sym (u .tuple-same)) (u .size-other (b .state .tuple) other ∙ m .size-is ∙ sym (u .entry-size-same));
+        control = subst (λ (k : ℕ). Control (word k 0 c) k) (sym (u .tuple-same)) (subst (λ (z : Word). Control z (b .state .tuple)) (sym (new-word-same (b .state .tuple) (moving inside) 0 (omega arith))) (m .control));
+      }
     where
       inside : Member (b .state .tuple) (g .plan .mid)
       inside = subst (λ (ks : List ℕ). Member (b .state .tuple) ks) (sym (m .mid-is)) (inl refl)
@@ -393,11 +476,39 @@ module _ (b : Box) (g : Ghosts) (c : Box) (r n tag : ℕ) (v : Inv b g) (d : b .
       zeroing (u .phase-same ∙ e) (new-unlisted x) m (o ∙ sym (u .dest-same)) (omega (arith, u .src-same, u .entry-size-same)) (omega (arith, u .src-same, u .dest-same)) (omega (arith, u .index-same, u .entry-size-same)) (omega (arith, u .index-same, u .src-same))
 
   new-inv : Inv c (made-ghosts g (b .state .free))
-  new-inv = record { shape = u .shape; handles = new-handles; layout = new-layout; contents = new-contents; zero-words = new-zero; marks = new-marks; stage = new-stage (v .stage) }
+  new-inv =
+      record {
+        shape = u .shape;
+        handles = new-handles;
+        layout = new-layout;
+        contents = new-contents;
+        zero-words = new-zero;
+        marks = new-marks;
+        stage = new-stage (v .stage);
+      }
 
   new-made : Made b (g .plan) c (made-plan (g .plan) (b .state .free)) r n tag
   new-made =
-      record { kept-to = new-kept-to; kept-from = new-kept-from; made-kept = new-kept; was-free = λ k. kept-differs (b .state .free) k refl; handle-not-nil = d; handle-below = free-bounds b g v d .1; h-same = u .h-same; made-size = u .size-new; made-control = new-control; made-tag = ap (λ (w : Word). tag-of w) new-control ∙ control-tag (b .state .free) tag t; made-words = λ k x. new-data k; made-deep = u .deep-new; register-made = u .register-new; made-handle = ap (λ (w : Word). handle-of w) (u .register-new) ∙ control-handle (b .state .free) 0 (omega arith); registers-same = u .register-other; sizes-same = λ h k. u .size-other h (kept-differs h k); words-same = new-word-same; deeps-same = λ h k. u .deep-other h (kept-differs h k) }
+      record {
+        kept-to = new-kept-to;
+        kept-from = new-kept-from;
+        made-kept = new-kept;
+        was-free = λ k. kept-differs (b .state .free) k refl;
+        handle-not-nil = d;
+        handle-below = free-bounds b g v d .1;
+        h-same = u .h-same;
+        made-size = u .size-new;
+        made-control = new-control;
+        made-tag = ap (λ (w : Word). tag-of w) new-control ∙ control-tag (b .state .free) tag t;
+        made-words = λ k x. new-data k;
+        made-deep = u .deep-new;
+        register-made = u .register-new;
+        made-handle = ap (λ (w : Word). handle-of w) (u .register-new) ∙ control-handle (b .state .free) 0 (omega arith);
+        registers-same = u .register-other;
+        sizes-same = λ h k. u .size-other h (kept-differs h k);
+        words-same = new-word-same;
+        deeps-same = λ h k. u .deep-other h (kept-differs h k);
+      }
 
 -- ---- GETM carried out, and a grant
 

@@ -109,17 +109,42 @@ unfolding in-range
 limits m h e =
     let first : (leb 16 m && leb m 8192 && leb 2 h) ≡ true = and-left (leb 16 m && leb m 8192 && leb 2 h) (leb h 1024) e in
     let second : (leb 16 m && leb m 8192) ≡ true = and-left (leb 16 m && leb m 8192) (leb 2 h) first in
-    record { least-m = leb-true 16 m (and-left (leb 16 m) (leb m 8192) second); most-m = leb-true m 8192 (and-right (leb 16 m) (leb m 8192) second); least-h = leb-true 2 h (and-right (leb 16 m && leb m 8192) (leb 2 h) first); most-h = leb-true h 1024 (and-right (leb 16 m && leb m 8192 && leb 2 h) (leb h 1024) e) }
+    record {
+      least-m = leb-true 16 m (and-left (leb 16 m) (leb m 8192) second);
+      most-m = leb-true m 8192 (and-right (leb 16 m) (leb m 8192) second);
+      least-h = leb-true 2 h (and-right (leb 16 m && leb m 8192) (leb 2 h) first);
+      most-h = leb-true h 1024 (and-right (leb 16 m && leb m 8192 && leb 2 h) (leb h 1024) e);
+    }
 
 -- ---- the groups
 
 open-shape : (m h : ℕ) → in-range m h ≡ true → Shape (opened m h)
 unfolding opened opened-state
-open-shape m h e = record { range = e; words-length = length-replicate m 0; flags-length = length-replicate m false; addresses-length = length-replicate h 0; sizes-length = length-replicate h 0; links-length = opened-links-length h 0 h; marks-length = length-replicate h false; deeps-length = length-replicate h false; registers-length = refl; register-flags-length = refl; held-register = λ f. absurd (false≢true f) }
+open-shape m h e =
+    record {
+      range = e;
+      words-length = length-replicate m 0;
+      flags-length = length-replicate m false;
+      addresses-length = length-replicate h 0;
+      sizes-length = length-replicate h 0;
+      links-length = opened-links-length h 0 h;
+      marks-length = length-replicate h false;
+      deeps-length = length-replicate h false;
+      registers-length = refl;
+      register-flags-length = refl;
+      held-register = λ f. absurd (false≢true f);
+    }
 
 open-handles : (m h : ℕ) → in-range m h ≡ true → Handles (opened m h) (resting-plan []) (handles-below h)
 unfolding opened opened-state
-open-handles m h e = record { distinct = count-up-distinct 1 (h - 1); entries = entry; every = each; count = ap suc (count-up-length 1 (h - 1)) ∙ total; free-chain = free-list-chain h (h - 1) refl least }
+open-handles m h e =
+    record {
+      distinct = count-up-distinct 1 (h - 1);
+      entries = entry;
+      every = each;
+      count = ap suc (count-up-length 1 (h - 1)) ∙ total;
+      free-chain = free-list-chain h (h - 1) refl least;
+    }
   where
     least : 2 ≤ h
     least = limits m h e .least-h
@@ -147,15 +172,46 @@ open-layout m h = record { done-laid = refl; ahead-laid = refl; low-base = omega
 
 open-contents : (m h : ℕ) → Contents (opened m h) (resting-plan [])
 open-contents m h =
-    record { roots-kept = λ r l n. absurd (false≢true (subst (λ (w : Word). names-tuple w ≡ true) (open-register m h r) n)); words-kept = λ x y. absurd (none-kept (opened m h) x y) }
+    record {
+      roots-kept = λ r l n. absurd (false≢true (subst (λ (w : Word). names-tuple w ≡ true) (open-register m h r) n));
+      words-kept = λ x y. absurd (none-kept (opened m h) x y);
+    }
 
 open-zero : (m h : ℕ) → Zero (opened m h) 0
 open-zero m h = record { above-top = λ a l. open-word m h a; behind = λ a l u. open-word m h a }
 
 open-marks : (m h : ℕ) → Marks (opened m h) (resting-plan []) (handles-below h) (resting [] (handles-below h) .scans)
 unfolding opened opened-state rooms marked-rooms
-open-marks m h = record { free-unmarked = λ x y. getD-all h x false; done-unmarked = λ x y. absurd y; mid-unmarked = λ x y. absurd y; live-is = refl; nexts-chain = refl; currents-chain = refl; listed-distinct = tt; listed-ahead = λ x y. absurd y; listed-marked = λ x y. absurd y; listed-deep = λ x y. absurd y; black = λ l x y. absurd y }
+open-marks m h =
+    record {
+      free-unmarked = λ x y. getD-all h x false;
+      done-unmarked = λ x y. absurd y;
+      mid-unmarked = λ x y. absurd y;
+      live-is = refl;
+      nexts-chain = refl;
+      currents-chain = refl;
+      listed-distinct = tt;
+      listed-ahead = λ x y. absurd y;
+      listed-marked = λ x y. absurd y;
+      listed-deep = λ x y. absurd y;
+      black = λ l x y. absurd y;
+    }
 
 pub opened-inv : (m h : ℕ) → in-range m h ≡ true → Inv (opened m h) (resting [] (handles-below h))
 unfolding opened opened-state
-opened-inv m h e = record { shape = open-shape m h e; handles = open-handles m h e; layout = open-layout m h; contents = open-contents m h; zero-words = open-zero m h; marks = open-marks m h; stage = Stage.at-rest refl (record { no-done = refl; no-mid = refl; low-zero = refl; base-zero = refl; zeroed-zero = refl }) (record { no-nexts = refl; no-currents = refl; no-gray = refl }) (λ x y. absurd y) }
+opened-inv m h e =
+    record {
+      shape = open-shape m h e;
+      handles = open-handles m h e;
+      layout = open-layout m h;
+      contents = open-contents m h;
+      zero-words = open-zero m h;
+      marks = open-marks m h;
+      stage = Stage.at-rest refl (record {
+        no-done = refl;
+        no-mid = refl;
+        low-zero = refl;
+        base-zero = refl;
+        zeroed-zero = refl;
+      }) (record { no-nexts = refl; no-currents = refl; no-gray = refl }) (λ x y. absurd y);
+    }

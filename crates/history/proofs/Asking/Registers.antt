@@ -40,7 +40,26 @@ pub record Put (b : Box) (p : Plan) (c : Box) (r : ℕ) (w : Word) : Type 0 wher
   pub deeps-same : (h : ℕ) → deep h c ≡ deep h b
 
 put-steady : (r : ℕ) (w : Word) (b : Box) → Steady b (put-register r w b)
-put-steady r w b = record { address-same = λ h. refl; size-same = λ h. refl; marked-same = λ h. refl; links-same = refl; m-same = refl; h-same = refl; top-same = refl; free-same = refl; phase-same = refl; live-same = refl; current-same = refl; next-same = refl; src-same = refl; dest-same = refl; tuple-same = refl; entry-size-same = refl; index-same = refl }
+put-steady r w b =
+    record {
+      address-same = λ h. refl;
+      size-same = λ h. refl;
+      marked-same = λ h. refl;
+      links-same = refl;
+      m-same = refl;
+      h-same = refl;
+      top-same = refl;
+      free-same = refl;
+      phase-same = refl;
+      live-same = refl;
+      current-same = refl;
+      next-same = refl;
+      src-same = refl;
+      dest-same = refl;
+      tuple-same = refl;
+      entry-size-same = refl;
+      index-same = refl;
+    }
 
 put-read : (r : ℕ) (w : Word) (b : Box) (p : Place) → read p (put-register r w b) ≡ read p b
 unfolding read
@@ -59,12 +78,33 @@ register-put-other r w b s n = λ i. record { bits = getD-set-other (b .state .r
 
 pub register-put : (b : Box) (g : Ghosts) → Inv b g → (r : ℕ) (w : Word) → r < register-count → Put b (g .plan) (put-register r w b) r w
 register-put b g v r w l =
-    record { kept-to = steady-kept-to b (put-register r w b) (g .plan) (put-steady r w b); kept-from = steady-kept-from b (put-register r w b) (g .plan) (put-steady r w b); register-put = register-put-same r w b (v .shape) l; registers-same = register-put-other r w b; sizes-same = λ h. refl; words-same = put-word r w b; deeps-same = λ h. refl }
+    record {
+      kept-to = steady-kept-to b (put-register r w b) (g .plan) (put-steady r w b);
+      kept-from = steady-kept-from b (put-register r w b) (g .plan) (put-steady r w b);
+      register-put = register-put-same r w b (v .shape) l;
+      registers-same = register-put-other r w b;
+      sizes-same = λ h. refl;
+      words-same = put-word r w b;
+      deeps-same = λ h. refl;
+    }
 
 put-shape : (r : ℕ) (w : Word) (b : Box) → Shape b → Shape (put-register r w b)
 put-shape r w b s =
     shape-same b (put-register r w b)
-    (record { m-same = refl; h-same = refl; words-same = refl; flags-same = refl; addresses-same = refl; sizes-same = refl; links-same = refl; marks-same = refl; deeps-same = refl; registers-same = length-set (b .state .registers) r (w .bits); register-flags-same = length-set (b .state .flags) r (w .flag); held-same = λ e. (e, refl) })
+    (record {
+      m-same = refl;
+      h-same = refl;
+      words-same = refl;
+      flags-same = refl;
+      addresses-same = refl;
+      sizes-same = refl;
+      links-same = refl;
+      marks-same = refl;
+      deeps-same = refl;
+      registers-same = length-set (b .state .registers) r (w .bits);
+      register-flags-same = length-set (b .state .flags) r (w .flag);
+      held-same = λ e. (e, refl);
+    })
     s
 
 put-contents : (b : Box) (g : Ghosts) → Inv b g → (r : ℕ) (w : Word) → r < register-count → (names-tuple w ≡ true → Kept b (g .plan) (handle-of w)) → Contents (put-register r w b) (g .plan)
@@ -142,16 +182,56 @@ hold-word r n t b h i = hold-read r n t b (place h i b)
 
 hold-steady : (r n t : ℕ) (b : Box) → Steady b (hold r n t b)
 unfolding hold
-hold-steady r n t b = record { address-same = λ h. refl; size-same = λ h. refl; marked-same = λ h. refl; links-same = refl; m-same = refl; h-same = refl; top-same = refl; free-same = refl; phase-same = refl; live-same = refl; current-same = refl; next-same = refl; src-same = refl; dest-same = refl; tuple-same = refl; entry-size-same = refl; index-same = refl }
+hold-steady r n t b =
+    record {
+      address-same = λ h. refl;
+      size-same = λ h. refl;
+      marked-same = λ h. refl;
+      links-same = refl;
+      m-same = refl;
+      h-same = refl;
+      top-same = refl;
+      free-same = refl;
+      phase-same = refl;
+      live-same = refl;
+      current-same = refl;
+      next-same = refl;
+      src-same = refl;
+      dest-same = refl;
+      tuple-same = refl;
+      entry-size-same = refl;
+      index-same = refl;
+    }
 
 -- nothing of the tuples or the registers changes
 pub hold-quiet : (r n t : ℕ) (b : Box) (p : Plan) → Quiet b p (hold r n t b) p
 unfolding hold
-hold-quiet r n t b p = record { kept-to = steady-kept-to b (hold r n t b) p (hold-steady r n t b); kept-from = steady-kept-from b (hold r n t b) p (hold-steady r n t b); roots-same = λ s. refl; sizes-same = λ h k. refl; words-same = λ h k i l. hold-word r n t b h i; deeps-same = λ h k. refl }
+hold-quiet r n t b p =
+    record {
+      kept-to = steady-kept-to b (hold r n t b) p (hold-steady r n t b);
+      kept-from = steady-kept-from b (hold r n t b) p (hold-steady r n t b);
+      roots-same = λ s. refl;
+      sizes-same = λ h k. refl;
+      words-same = λ h k i l. hold-word r n t b h i;
+      deeps-same = λ h k. refl;
+    }
 
 hold-shape : (r n t : ℕ) (b : Box) → r < register-count → In16 t → Shape b → Shape (hold r n t b)
 unfolding hold
-hold-shape r n t b l y s = record { range = s .range; words-length = s .words-length; flags-length = s .flags-length; addresses-length = s .addresses-length; sizes-length = s .sizes-length; links-length = s .links-length; marks-length = s .marks-length; deeps-length = s .deeps-length; registers-length = s .registers-length; register-flags-length = s .register-flags-length; held-register = λ e. (l, y) }
+hold-shape r n t b l y s =
+    record {
+      range = s .range;
+      words-length = s .words-length;
+      flags-length = s .flags-length;
+      addresses-length = s .addresses-length;
+      sizes-length = s .sizes-length;
+      links-length = s .links-length;
+      marks-length = s .marks-length;
+      deeps-length = s .deeps-length;
+      registers-length = s .registers-length;
+      register-flags-length = s .register-flags-length;
+      held-register = λ e. (l, y);
+    }
 
 pub invariant-hold : (b : Box) (g : Ghosts) → Inv b g → (r n t : ℕ) → r < register-count → In16 t → Inv (hold r n t b) g
 unfolding hold
@@ -177,15 +257,55 @@ unheld-word b h i = unheld-read b (place h i b)
 
 unheld-steady : (b : Box) → Steady b (unheld b)
 unfolding unheld
-unheld-steady b = record { address-same = λ h. refl; size-same = λ h. refl; marked-same = λ h. refl; links-same = refl; m-same = refl; h-same = refl; top-same = refl; free-same = refl; phase-same = refl; live-same = refl; current-same = refl; next-same = refl; src-same = refl; dest-same = refl; tuple-same = refl; entry-size-same = refl; index-same = refl }
+unheld-steady b =
+    record {
+      address-same = λ h. refl;
+      size-same = λ h. refl;
+      marked-same = λ h. refl;
+      links-same = refl;
+      m-same = refl;
+      h-same = refl;
+      top-same = refl;
+      free-same = refl;
+      phase-same = refl;
+      live-same = refl;
+      current-same = refl;
+      next-same = refl;
+      src-same = refl;
+      dest-same = refl;
+      tuple-same = refl;
+      entry-size-same = refl;
+      index-same = refl;
+    }
 
 pub unheld-quiet : (b : Box) (p : Plan) → Quiet b p (unheld b) p
 unfolding unheld
-unheld-quiet b p = record { kept-to = steady-kept-to b (unheld b) p (unheld-steady b); kept-from = steady-kept-from b (unheld b) p (unheld-steady b); roots-same = λ s. refl; sizes-same = λ h k. refl; words-same = λ h k i l. unheld-word b h i; deeps-same = λ h k. refl }
+unheld-quiet b p =
+    record {
+      kept-to = steady-kept-to b (unheld b) p (unheld-steady b);
+      kept-from = steady-kept-from b (unheld b) p (unheld-steady b);
+      roots-same = λ s. refl;
+      sizes-same = λ h k. refl;
+      words-same = λ h k i l. unheld-word b h i;
+      deeps-same = λ h k. refl;
+    }
 
 unheld-shape : (b : Box) → Shape b → Shape (unheld b)
 unfolding unheld
-unheld-shape b s = record { range = s .range; words-length = s .words-length; flags-length = s .flags-length; addresses-length = s .addresses-length; sizes-length = s .sizes-length; links-length = s .links-length; marks-length = s .marks-length; deeps-length = s .deeps-length; registers-length = s .registers-length; register-flags-length = s .register-flags-length; held-register = λ e. absurd (false≢true e) }
+unheld-shape b s =
+    record {
+      range = s .range;
+      words-length = s .words-length;
+      flags-length = s .flags-length;
+      addresses-length = s .addresses-length;
+      sizes-length = s .sizes-length;
+      links-length = s .links-length;
+      marks-length = s .marks-length;
+      deeps-length = s .deeps-length;
+      registers-length = s .registers-length;
+      register-flags-length = s .register-flags-length;
+      held-register = λ e. absurd (false≢true e);
+    }
 
 pub invariant-unheld : (b : Box) (g : Ghosts) → Inv b g → Inv (unheld b) g
 unfolding unheld

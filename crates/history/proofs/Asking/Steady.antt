@@ -60,7 +60,19 @@ steady-handles b c p free s v = handles-same b c p free (s .h-same) (rw (s .link
 
 pub steady-marks : (b c : Box) (p : Plan) (free : List ℕ) (s : Scans) → Steady b c → Rewords b p c → Marks b p free s → Marks c p free s
 steady-marks b c p free s t w v =
-    record { free-unmarked = λ h x. t .marked-same h ∙ v .free-unmarked h x; done-unmarked = λ h x. t .marked-same h ∙ v .done-unmarked h x; mid-unmarked = λ h x. t .marked-same h ∙ v .mid-unmarked h x; live-is = t .live-same ∙ v .live-is ∙ ap (λ (z : ℕ). p .low + z) sums; nexts-chain = rw (t .links-same, t .next-same) (v .nexts-chain); currents-chain = rw (t .links-same, t .current-same) (v .currents-chain); listed-distinct = v .listed-distinct; listed-ahead = v .listed-ahead; listed-marked = λ h x. t .marked-same h ∙ v .listed-marked h x; listed-deep = λ h x. w .deeps-stay h (v .listed-deep h x); black = dark }
+    record {
+      free-unmarked = λ h x. t .marked-same h ∙ v .free-unmarked h x;
+      done-unmarked = λ h x. t .marked-same h ∙ v .done-unmarked h x;
+      mid-unmarked = λ h x. t .marked-same h ∙ v .mid-unmarked h x;
+      live-is = t .live-same ∙ v .live-is ∙ ap (λ (z : ℕ). p .low + z) sums;
+      nexts-chain = rw (t .links-same, t .next-same) (v .nexts-chain);
+      currents-chain = rw (t .links-same, t .current-same) (v .currents-chain);
+      listed-distinct = v .listed-distinct;
+      listed-ahead = v .listed-ahead;
+      listed-marked = λ h x. t .marked-same h ∙ v .listed-marked h x;
+      listed-deep = λ h x. w .deeps-stay h (v .listed-deep h x);
+      black = dark;
+    }
   where
     sums : rooms b (p .mid) + marked-rooms b (p .ahead) ≡ rooms c (p .mid) + marked-rooms c (p .ahead)
     sums = sym (ap₂ (λ (x y : ℕ). x + y) (rooms-frame b c (p .mid) (λ h x. t .size-same h)) (marked-rooms-frame b c (p .ahead) (λ h x. t .size-same h) (λ h x. t .marked-same h)))
@@ -84,11 +96,27 @@ steady-marks b c p free s t w v =
 -- ---- the stage
 
 steady-scan : (b c : Box) (g : Ghosts) (s : ℕ) → Steady b c → Scan b g s → Scan c g s
-steady-scan b c g s t y = record { gray-is = y .gray-is; src-is = t .address-same s ∙ y .src-is ∙ sym (t .src-same); size-is = t .size-same s ∙ y .size-is ∙ sym (t .entry-size-same); index-least = omega (arith, t .index-same, y .index-least); index-most = omega (arith, t .index-same, t .entry-size-same, y .index-most) }
+steady-scan b c g s t y =
+    record {
+      gray-is = y .gray-is;
+      src-is = t .address-same s ∙ y .src-is ∙ sym (t .src-same);
+      size-is = t .size-same s ∙ y .size-is ∙ sym (t .entry-size-same);
+      index-least = omega (arith, t .index-same, y .index-least);
+      index-most = omega (arith, t .index-same, t .entry-size-same, y .index-most);
+    }
 
 steady-move : (b c : Box) (g : Ghosts) → Steady b c → Rewords b (g .plan) c → Move b g → Move c g
 steady-move b c g t w m =
-    record { unlisted = m .unlisted; mid-is = m .mid-is ∙ ap (λ (k : ℕ). k ∷ []) (sym (t .tuple-same)); low-is = m .low-is ∙ sym (t .dest-same); base-is = omega (arith, m .base-is, t .src-same, t .entry-size-same); downward = omega (arith, m .downward, t .src-same, t .dest-same); src-is = subst (λ (k : ℕ). address k c ≡ c .state .src) (sym (t .tuple-same)) (t .address-same (b .state .tuple) ∙ m .src-is ∙ sym (t .src-same)); size-is = subst (λ (k : ℕ). size-of k c ≡ c .state .size) (sym (t .tuple-same)) (t .size-same (b .state .tuple) ∙ m .size-is ∙ sym (t .entry-size-same)); control = subst (λ (k : ℕ). Control (word k 0 c) k) (sym (t .tuple-same)) (subst (λ (z : Word). Control z (b .state .tuple)) (sym (w .controls-same (b .state .tuple) kept)) (m .control)) }
+    record {
+      unlisted = m .unlisted;
+      mid-is = m .mid-is ∙ ap (λ (k : ℕ). k ∷ []) (sym (t .tuple-same));
+      low-is = m .low-is ∙ sym (t .dest-same);
+      base-is = omega (arith, m .base-is, t .src-same, t .entry-size-same);
+      downward = omega (arith, m .downward, t .src-same, t .dest-same);
+      src-is = subst (λ (k : ℕ). address k c ≡ c .state .src) (sym (t .tuple-same)) (t .address-same (b .state .tuple) ∙ m .src-is ∙ sym (t .src-same));
+      size-is = subst (λ (k : ℕ). size-of k c ≡ c .state .size) (sym (t .tuple-same)) (t .size-same (b .state .tuple) ∙ m .size-is ∙ sym (t .entry-size-same));
+      control = subst (λ (k : ℕ). Control (word k 0 c) k) (sym (t .tuple-same)) (subst (λ (z : Word). Control z (b .state .tuple)) (sym (w .controls-same (b .state .tuple) kept)) (m .control));
+    }
   where
     kept : Kept b (g .plan) (b .state .tuple)
     kept = moving (subst (λ (ks : List ℕ). Member (b .state .tuple) ks) (sym (m .mid-is)) (inl refl))
@@ -132,4 +160,12 @@ steady-stage b c g t w v (zeroing e u n l a d i z) =
 
 pub steady-inv : (b c : Box) (g : Ghosts) → Steady b c → Rewords b (g .plan) c → Shape c → Layout c (g .plan) → Contents c (g .plan) → Zero c (g .zeroed) → Inv b g → Inv c g
 steady-inv b c g t w sh la co ze v =
-    record { shape = sh; handles = steady-handles b c (g .plan) (g .free) t (v .handles); layout = la; contents = co; zero-words = ze; marks = steady-marks b c (g .plan) (g .free) (g .scans) t w (v .marks); stage = steady-stage b c g t w (v .marks) (v .stage) }
+    record {
+      shape = sh;
+      handles = steady-handles b c (g .plan) (g .free) t (v .handles);
+      layout = la;
+      contents = co;
+      zero-words = ze;
+      marks = steady-marks b c (g .plan) (g .free) (g .scans) t w (v .marks);
+      stage = steady-stage b c g t w (v .marks) (v .stage);
+    }

@@ -32,7 +32,15 @@ pub record Shades (w : Word) (b : Box) : Type 0 where
 stored-after : (b : Box) (p : Plan) (c : Box) (q : Plan) (e : Box) (r : Plan) (h n : ℕ) (w : Word) → ((k : ℕ) → Kept c q k → Kept b p k) → ((k : ℕ) → Kept b p k → Kept c q k) → ((x : ℕ) → register x c ≡ register x b)
     → c .state .h ≡ b .state .h → ((k : ℕ) → Kept b p k → size-of k c ≡ size-of k b) → ((k : ℕ) → Kept b p k → (i : ℕ) → i ≤ size-of k b → word k i c ≡ word k i b) → Stored c q e r h n w → Stored b p e r h n w
 stored-after b p c q e r h n w to from roots entries sizes words s =
-    record { kept-to = λ k x. to k (s .kept-to k x); kept-from = λ k x. s .kept-from k (from k x); roots-same = λ x. s .roots-same x ∙ roots x; h-same = s .h-same ∙ entries; sizes-same = λ k x. s .sizes-same k (from k x) ∙ sizes k x; word-stored = s .word-stored; words-same = λ k x i l d. s .words-same k (from k x) i (subst (λ (z : ℕ). i ≤ z) (sym (sizes k x)) l) d ∙ words k x i l }
+    record {
+      kept-to = λ k x. to k (s .kept-to k x);
+      kept-from = λ k x. s .kept-from k (from k x);
+      roots-same = λ x. s .roots-same x ∙ roots x;
+      h-same = s .h-same ∙ entries;
+      sizes-same = λ k x. s .sizes-same k (from k x) ∙ sizes k x;
+      word-stored = s .word-stored;
+      words-same = λ k x i l d. s .words-same k (from k x) i (subst (λ (z : ℕ). i ≤ z) (sym (sizes k x)) l) d ∙ words k x i l;
+    }
 
 -- ---- a pointer is written into a tuple made deep
 

@@ -35,7 +35,26 @@ unfolding place being-moved
 deepen-place h b k i = refl
 
 pub deepen-steady : (h : ℕ) (b : Box) → Steady b (set-deep h true b)
-deepen-steady h b = record { address-same = λ k. refl; size-same = λ k. refl; marked-same = λ k. refl; links-same = refl; m-same = refl; h-same = refl; top-same = refl; free-same = refl; phase-same = refl; live-same = refl; current-same = refl; next-same = refl; src-same = refl; dest-same = refl; tuple-same = refl; entry-size-same = refl; index-same = refl }
+deepen-steady h b =
+    record {
+      address-same = λ k. refl;
+      size-same = λ k. refl;
+      marked-same = λ k. refl;
+      links-same = refl;
+      m-same = refl;
+      h-same = refl;
+      top-same = refl;
+      free-same = refl;
+      phase-same = refl;
+      live-same = refl;
+      current-same = refl;
+      next-same = refl;
+      src-same = refl;
+      dest-same = refl;
+      tuple-same = refl;
+      entry-size-same = refl;
+      index-same = refl;
+    }
 
 pub deepen-deep : (h : ℕ) (b : Box) → Shape b → h < b .state .h → deep h (set-deep h true b) ≡ true
 deepen-deep h b s l = getD-set-same (b .deeps) h true false (omega (arith, s .deeps-length))
@@ -50,7 +69,20 @@ deepen-stays h b s l k e = cases (ℕ-discrete k h)
 deepen-shape : (h : ℕ) (b : Box) → Shape b → Shape (set-deep h true b)
 deepen-shape h b s =
     shape-same b (set-deep h true b)
-    (record { m-same = refl; h-same = refl; words-same = refl; flags-same = refl; addresses-same = refl; sizes-same = refl; links-same = refl; marks-same = refl; deeps-same = length-set (b .deeps) h true; registers-same = refl; register-flags-same = refl; held-same = λ e. (e, refl) })
+    (record {
+      m-same = refl;
+      h-same = refl;
+      words-same = refl;
+      flags-same = refl;
+      addresses-same = refl;
+      sizes-same = refl;
+      links-same = refl;
+      marks-same = refl;
+      deeps-same = length-set (b .deeps) h true;
+      registers-same = refl;
+      register-flags-same = refl;
+      held-same = λ e. (e, refl);
+    })
     s
 
 deepen-contents : (h : ℕ) (b : Box) (p : Plan) → Shape b → h < b .state .h → Contents b p → Contents (set-deep h true b) p
@@ -79,8 +111,46 @@ deepen-inv b g v h l =
 
 write-steady : (p : Place) (w : Word) (b : Box) → Steady b (write p w b)
 unfolding write
-write-steady copy-place w b = record { address-same = λ k. refl; size-same = λ k. refl; marked-same = λ k. refl; links-same = refl; m-same = refl; h-same = refl; top-same = refl; free-same = refl; phase-same = refl; live-same = refl; current-same = refl; next-same = refl; src-same = refl; dest-same = refl; tuple-same = refl; entry-size-same = refl; index-same = refl }
-write-steady (at a) w b = record { address-same = λ k. refl; size-same = λ k. refl; marked-same = λ k. refl; links-same = refl; m-same = refl; h-same = refl; top-same = refl; free-same = refl; phase-same = refl; live-same = refl; current-same = refl; next-same = refl; src-same = refl; dest-same = refl; tuple-same = refl; entry-size-same = refl; index-same = refl }
+write-steady copy-place w b =
+    record {
+      address-same = λ k. refl;
+      size-same = λ k. refl;
+      marked-same = λ k. refl;
+      links-same = refl;
+      m-same = refl;
+      h-same = refl;
+      top-same = refl;
+      free-same = refl;
+      phase-same = refl;
+      live-same = refl;
+      current-same = refl;
+      next-same = refl;
+      src-same = refl;
+      dest-same = refl;
+      tuple-same = refl;
+      entry-size-same = refl;
+      index-same = refl;
+    }
+write-steady (at a) w b =
+    record {
+      address-same = λ k. refl;
+      size-same = λ k. refl;
+      marked-same = λ k. refl;
+      links-same = refl;
+      m-same = refl;
+      h-same = refl;
+      top-same = refl;
+      free-same = refl;
+      phase-same = refl;
+      live-same = refl;
+      current-same = refl;
+      next-same = refl;
+      src-same = refl;
+      dest-same = refl;
+      tuple-same = refl;
+      entry-size-same = refl;
+      index-same = refl;
+    }
 
 write-place : (p : Place) (w : Word) (b : Box) (k i : ℕ) → place k i (write p w b) ≡ place k i b
 unfolding write place being-moved
@@ -99,8 +169,34 @@ write-deep (at a) w b k = refl
 
 write-shape : (p : Place) (w : Word) (b : Box) → Shape b → Shape (write p w b)
 unfolding write
-write-shape copy-place w b s = record { range = s .range; words-length = s .words-length; flags-length = s .flags-length; addresses-length = s .addresses-length; sizes-length = s .sizes-length; links-length = s .links-length; marks-length = s .marks-length; deeps-length = s .deeps-length; registers-length = s .registers-length; register-flags-length = s .register-flags-length; held-register = s .held-register }
-write-shape (at a) w b s = record { range = s .range; words-length = length-set (b .words) a (w .bits) ∙ s .words-length; flags-length = length-set (b .flags) a (w .flag) ∙ s .flags-length; addresses-length = s .addresses-length; sizes-length = s .sizes-length; links-length = s .links-length; marks-length = s .marks-length; deeps-length = s .deeps-length; registers-length = s .registers-length; register-flags-length = s .register-flags-length; held-register = s .held-register }
+write-shape copy-place w b s =
+    record {
+      range = s .range;
+      words-length = s .words-length;
+      flags-length = s .flags-length;
+      addresses-length = s .addresses-length;
+      sizes-length = s .sizes-length;
+      links-length = s .links-length;
+      marks-length = s .marks-length;
+      deeps-length = s .deeps-length;
+      registers-length = s .registers-length;
+      register-flags-length = s .register-flags-length;
+      held-register = s .held-register;
+    }
+write-shape (at a) w b s =
+    record {
+      range = s .range;
+      words-length = length-set (b .words) a (w .bits) ∙ s .words-length;
+      flags-length = length-set (b .flags) a (w .flag) ∙ s .flags-length;
+      addresses-length = s .addresses-length;
+      sizes-length = s .sizes-length;
+      links-length = s .links-length;
+      marks-length = s .marks-length;
+      deeps-length = s .deeps-length;
+      registers-length = s .registers-length;
+      register-flags-length = s .register-flags-length;
+      held-register = s .held-register;
+    }
 
 -- the word is there
 read-written : (p : Place) (w : Word) (b : Box) → Shape b → ((a : ℕ) → p ≡ at a → a < b .state .m) → read p (write p w b) ≡ w
@@ -202,11 +298,24 @@ module _ (b : Box) (g : Ghosts) (v : Inv b g) (h n : ℕ) (kept : Kept b (g .pla
 
   pub written-stored : Stored b (g .plan) (write (place h (n + 1) b) w b) (g .plan) h n w
   written-stored =
-      record { kept-to = steady-kept-to b (write (place h (n + 1) b) w b) (g .plan) (write-steady (place h (n + 1) b) w b); kept-from = steady-kept-from b (write (place h (n + 1) b) w b) (g .plan) (write-steady (place h (n + 1) b) w b); roots-same = write-register (place h (n + 1) b) w b; h-same = write-steady (place h (n + 1) b) w b .h-same; sizes-same = λ k x. write-steady (place h (n + 1) b) w b .size-same k; word-stored = written-word; words-same = written-other }
+      record {
+        kept-to = steady-kept-to b (write (place h (n + 1) b) w b) (g .plan) (write-steady (place h (n + 1) b) w b);
+        kept-from = steady-kept-from b (write (place h (n + 1) b) w b) (g .plan) (write-steady (place h (n + 1) b) w b);
+        roots-same = write-register (place h (n + 1) b) w b;
+        h-same = write-steady (place h (n + 1) b) w b .h-same;
+        sizes-same = λ k x. write-steady (place h (n + 1) b) w b .size-same k;
+        word-stored = written-word;
+        words-same = written-other;
+      }
 
   written-layout : Layout (write (place h (n + 1) b) w b) (g .plan)
   written-layout =
-      record { done-laid = laid-frame b c 0 (g .plan .done) (g .plan .low) (λ k x. s .address-same k) (λ k x. s .size-same k) done-control (v .layout .done-laid); ahead-laid = laid-to c (g .plan .base) (g .plan .ahead) (b .state .top) (c .state .top) (sym (s .top-same)) (laid-frame b c (g .plan .base) (g .plan .ahead) (b .state .top) (λ k x. s .address-same k) (λ k x. s .size-same k) ahead-control (v .layout .ahead-laid)); low-base = rw (rooms-frame b c (g .plan .mid) (λ k x. s .size-same k)) (v .layout .low-base); top-fits = omega (arith, v .layout .top-fits, s .top-same, s .m-same) }
+      record {
+        done-laid = laid-frame b c 0 (g .plan .done) (g .plan .low) (λ k x. s .address-same k) (λ k x. s .size-same k) done-control (v .layout .done-laid);
+        ahead-laid = laid-to c (g .plan .base) (g .plan .ahead) (b .state .top) (c .state .top) (sym (s .top-same)) (laid-frame b c (g .plan .base) (g .plan .ahead) (b .state .top) (λ k x. s .address-same k) (λ k x. s .size-same k) ahead-control (v .layout .ahead-laid));
+        low-base = rw (rooms-frame b c (g .plan .mid) (λ k x. s .size-same k)) (v .layout .low-base);
+        top-fits = omega (arith, v .layout .top-fits, s .top-same, s .m-same);
+      }
     where
       c : Box
       c = write (place h (n + 1) b) w b
@@ -272,7 +381,12 @@ module _ (b : Box) (g : Ghosts) (v : Inv b g) (h n : ℕ) (kept : Kept b (g .pla
               (subst (λ (x : Word). Kept (write (place h (n + 1) b) w b) (g .plan) (handle-of x)) (sym q) (from (handle-of (word k (i + 1) b)) (o .0)), write-deep (place h (n + 1) b) w b k ∙ o .1)
 
   written-rewords : (b .state .phase ≤ 3 → marked h b ≡ true → names-tuple w ≡ true → marked (handle-of w) b ≡ true) → Rewords b (g .plan) (write (place h (n + 1) b) w b)
-  written-rewords f = record { controls-same = λ k x. written-other k x 0 (omega arith) (inr (omega arith)); words-safe = safe; deeps-stay = λ k e. write-deep (place h (n + 1) b) w b k ∙ e }
+  written-rewords f =
+      record {
+        controls-same = λ k x. written-other k x 0 (omega arith) (inr (omega arith));
+        words-safe = safe;
+        deeps-stay = λ k e. write-deep (place h (n + 1) b) w b k ∙ e;
+      }
     where
       safe : (k : ℕ) → Kept b (g .plan) k → (i : ℕ) → i < size-of k b → Safe b (write (place h (n + 1) b) w b) k (i + 1)
       safe k x i u = cases (which k i)

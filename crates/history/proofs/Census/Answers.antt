@@ -31,7 +31,12 @@ module _ (b : Box) (g : Ghosts) (m : History) (given : List ℕ) (number : ℕ �
         let is : (ys : List ℕ) × Lists (Reachable m) ys = reachable-list m reachable-made in
         let y : Fits (b .state .m) (b .state .h) (is .0) n m = fits-if-room b g m given number v s e (is .0) (is .1) n f t in
         let z : Fits (b .state .m) (b .state .h) (is .0) (w .asked .size) (w .history-then) = subst (λ (x : History). Fits (b .state .m) (b .state .h) (is .0) (w .asked .size) x) (sym q) (subst (λ (x : ℕ). Fits (b .state .m) (b .state .h) (is .0) x m) (sym r) y) in
-        record { reachable-then = is .0; are-reachable = subst (λ (x : History). Lists (Reachable x) (is .0)) (sym q) (is .1); dropped = (λ a. absurd (omega arith), λ a. absurd (a z)); granted = (λ a. z, λ a. refl) }
+        record {
+          reachable-then = is .0;
+          are-reachable = subst (λ (x : History). Lists (Reachable x) (is .0)) (sym q) (is .1);
+          dropped = (λ a. absurd (omega arith), λ a. absurd (a z));
+          granted = (λ a. z, λ a. refl);
+        }
 
     -- the cycle began under the hold: what is kept was reachable then, so is now
     only-reachable : ((h : ℕ) → Kept b (g .plan) h → Spared m (number h)) → (i : ℕ) → Member i (alive b g m given number v s e) → Reachable m i
@@ -51,4 +56,9 @@ module _ (b : Box) (g : Ghosts) (m : History) (given : List ℕ) (number : ℕ �
         let is : (ys : List ℕ) × Lists (Reachable m) ys = reachable-list m reachable-made in
         let y : ¬ Fits (b .state .m) (b .state .h) (is .0) n m = no-fit b g m given number v s e (is .0) (is .1) (only-reachable f) n o in
         let z : ¬ Fits (b .state .m) (b .state .h) (is .0) (w .asked .size) (w .history-then) = subst (λ (x : History). ¬ Fits (b .state .m) (b .state .h) (is .0) (w .asked .size) x) (sym q) (subst (λ (x : ℕ). ¬ Fits (b .state .m) (b .state .h) (is .0) x m) (sym r) y) in
-        record { reachable-then = is .0; are-reachable = subst (λ (x : History). Lists (Reachable x) (is .0)) (sym q) (is .1); dropped = (λ a. z, λ a. refl); granted = (λ a. absurd (omega arith), λ a. absurd (z a)) }
+        record {
+          reachable-then = is .0;
+          are-reachable = subst (λ (x : History). Lists (Reachable x) (is .0)) (sym q) (is .1);
+          dropped = (λ a. z, λ a. refl);
+          granted = (λ a. absurd (omega arith), λ a. absurd (z a));
+        }

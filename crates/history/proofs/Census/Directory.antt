@@ -161,7 +161,11 @@ module _ (b : Box) (g : Ghosts) (m : History) (given : List ℕ) (number : ℕ �
   pub dead-lists : Lists (λ i. IsNumber i m × Gone b given i) dead
   unfolding dead
   dead-lists =
-      record { distinct = minus-distinct (upto (made m)) alive (upto-distinct (made m)); sound = λ i x. let l : IsNumber i m = upto-bounds (made m) i (minus-member (upto (made m)) alive i x) in (l, not-alive-gone i l (minus-out (upto (made m)) alive i (upto-distinct (made m)) x)); complete = λ i y. minus-in (upto (made m)) alive i (upto-member (made m) i (y .0 .0) (y .0 .1)) (λ x. alive-not-gone i x (y .1)) }
+      record {
+        distinct = minus-distinct (upto (made m)) alive (upto-distinct (made m));
+        sound = λ i x. let l : IsNumber i m = upto-bounds (made m) i (minus-member (upto (made m)) alive i x) in (l, not-alive-gone i l (minus-out (upto (made m)) alive i (upto-distinct (made m)) x));
+        complete = λ i y. minus-in (upto (made m)) alive i (upto-member (made m) i (y .0 .0) (y .0 .1)) (λ x. alive-not-gone i x (y .1));
+      }
 
   pub top-sum : b .state .top + room dead m ≡ room (upto (made m)) m
   unfolding dead
@@ -234,4 +238,10 @@ module _ (b : Box) (g : Ghosts) (m : History) (given : List ℕ) (number : ℕ �
 
 pub rest-sum : (w : World) (g : Ghosts) (number : ℕ → ℕ) → Inv (w .box) g → Related (w .box) (g .plan) (w .history) (w .log .given) number → w .box .state .phase ≡ 0 → RestSum w
 rest-sum w g number v s e =
-    record { all-made = upto (made (w .history)); are-made = all-made-lists (w .box) g (w .history) (w .log .given) number v s e; gone = dead (w .box) g (w .history) (w .log .given) number v s e; are-gone = dead-lists (w .box) g (w .history) (w .log .given) number v s e; top-is = top-sum (w .box) g (w .history) (w .log .given) number v s e }
+    record {
+      all-made = upto (made (w .history));
+      are-made = all-made-lists (w .box) g (w .history) (w .log .given) number v s e;
+      gone = dead (w .box) g (w .history) (w .log .given) number v s e;
+      are-gone = dead-lists (w .box) g (w .history) (w .log .given) number v s e;
+      top-is = top-sum (w .box) g (w .history) (w .log .given) number v s e;
+    }

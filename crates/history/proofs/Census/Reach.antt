@@ -99,8 +99,16 @@ module _ (m : History) where
     where
       go : ((r : ℕ) → r < register-count → Inside xs (register-of r m)) ⊎ Leak xs (λ r. register-of r m) register-count → ((i : ℕ) → Member i xs → (k : ℕ) → k < size-at i m → Inside xs (word-of i k m)) ⊎ Hole xs xs → ((n : ℕ) → Reachable m n → Member n xs) ⊎ More xs
       go (inl f) (inl g) = inl (complete xs f g)
-      go (inl f) (inr w) = inr (record { one = w .leak .out .number; reach = by-word (w .tuple) (w .leak .at) (w .leak .out .number) (w .leak .out .offset) (s (w .tuple) (w .member)) (w .leak .below) (w .leak .out .names) (w .leak .out .not-nil); new = w .leak .out .not-in })
-      go (inr w) r = inr (record { one = w .out .number; reach = by-register (w .at) (w .out .number) (w .out .offset) (w .below) (w .out .names) (w .out .not-nil); new = w .out .not-in })
+      go (inl f) (inr w) = inr (record {
+        one = w .leak .out .number;
+        reach = by-word (w .tuple) (w .leak .at) (w .leak .out .number) (w .leak .out .offset) (s (w .tuple) (w .member)) (w .leak .below) (w .leak .out .names) (w .leak .out .not-nil);
+        new = w .leak .out .not-in;
+      })
+      go (inr w) r = inr (record {
+        one = w .out .number;
+        reach = by-register (w .at) (w .out .number) (w .out .offset) (w .below) (w .out .names) (w .out .not-nil);
+        new = w .out .not-in;
+      })
 
   grow : ((n : ℕ) → Reachable m n → (1 ≤ n) × (n ≤ made m)) → (fuel : ℕ) (xs : List ℕ) → Distinct xs → ((i : ℕ) → Member i xs → Reachable m i) → made m < fuel + length xs → (ys : List ℕ) × Lists (Reachable m) ys
   grow f zero xs d s l =

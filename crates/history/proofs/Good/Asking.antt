@@ -14,8 +14,8 @@ use Rattle.memory.specs.Limits.{register-count, half-word}
 use Rattle.memory.specs.Box.{Box, Word, handle-of, names-tuple, register, put-register, marked, set-deep}
 use Rattle.memory.specs.Place.{Place, copy-place, at, write, shade}
 use Rattle.memory.specs.Request.{hold, new-entry, take-room, new-tuple}
-use Rattle.history.specs.Machine.{HWord, datum, pointer-to, History, register-of, size-at, made, put-in, make, advance-by, load-from, store-to, size-to, tag-to, do-request, hold-request, with-hold}
-use Rattle.history.specs.Calls.{Log, given-by, disturb, pend, log-done, log-held}
+use Rattle.history.specs.Machine.{Asked as Wanted, word-of, HWord, datum, pointer-to, History, register-of, size-at, made, put-in, make, advance-by, load-from, store-to, size-to, tag-to, do-request, hold-request, with-hold}
+use Rattle.history.specs.Calls.{Pending, Log, given-by, disturb, pend, log-done, log-held}
 use Rattle.history.proofs.Invariant.Statement.{Scans, Ghosts, Inv, Kept}
 use Rattle.history.proofs.View.Request.{named, number as number-in, place-of, There}
 use Rattle.history.proofs.Marking.Alike.{with-scans}
@@ -32,7 +32,7 @@ use Rattle.history.proofs.Relation.Statement.{Related}
 use Rattle.history.proofs.Relation.Still.{kept-put}
 use Rattle.history.proofs.Relation.NewTuple.{renumbered, related-made}
 use Rattle.history.proofs.Relation.Hold.{registers-request, related-hold}
-use Rattle.history.proofs.Relation.Store.{related-store}
+use Rattle.history.proofs.Relation.Store.{related-store, stored-in}
 use Rattle.history.proofs.Spared.History.{spared-request}
 use Rattle.history.proofs.Spared.Steps.{shade-marked-only}
 use Rattle.history.proofs.Spared.Requests.{tracked-in, tracked-asked, tracked-made}
@@ -51,7 +51,7 @@ unfolding load-from
 load-hold r (datum v) k t = refl
 load-hold r (pointer-to i o) k t = go (ltb (o + k) (size-at i t))
   where
-    go : (x : Bool) → cond x (put-in r (Rattle.history.specs.Machine.word-of i (o + k) t) t) t .hold ≡ t .hold
+    go : (x : Bool) → cond x (put-in r (word-of i (o + k) t) t) t .hold ≡ t .hold
     go true = refl
     go false = refl
 
@@ -60,7 +60,7 @@ unfolding store-to
 store-hold w (datum v) k t = refl
 store-hold w (pointer-to i o) k t = go (ltb (o + k) (size-at i t))
   where
-    go : (x : Bool) → cond x (record { registers = t .registers; tuples = Rattle.history.specs.Machine.set-word i (o + k) w (t .tuples); hold = t .hold }) t .hold ≡ t .hold
+    go : (x : Bool) → cond x (stored-in i (o + k) w t) t .hold ≡ t .hold
     go true = refl
     go false = refl
 
@@ -101,7 +101,18 @@ pub good-done : (m h : ℕ) (b : Box) (t : History) (l : Log) (k : Good m h b t 
     → Good m h c (do-request q t) (log-done q c l)
 unfolding log-done disturb
 good-done m h b t l k q c g number u s v r x =
-    record { m-is = s .m-same ∙ k .m-is; h-is = s .h-same ∙ k .h-is; ghosts = g; inv = v; number = number; related = r; eight = registers-request q t ∙ k .eight; cycling = cycle (k .cycling); waiting = wait (k .waiting); past = k .past }
+    record {
+      m-is = s .m-same ∙ k .m-is;
+      h-is = s .h-same ∙ k .h-is;
+      ghosts = g;
+      inv = v;
+      number = number;
+      related = r;
+      eight = registers-request q t ∙ k .eight;
+      cycling = cycle (k .cycling);
+      waiting = wait (k .waiting);
+      past = k .past;
+    }
   where
     free : c .state .held ≡ false
     free = s .held-same ∙ u
@@ -122,10 +133,28 @@ hold-m : (r n tag : ℕ) (b : Box) → hold r n tag b .state .m ≡ b .state .m
 unfolding hold
 hold-m r n tag b = refl
 
+-- the request, and the log's note of it
+abbrev wanted : ℕ → ℕ → ℕ → Wanted
+wanted r n tag = record { register = r; size = n; tag = tag }
+
+abbrev put-off : ℕ → ℕ → ℕ → History → Pending
+put-off r n tag t = record { asked = wanted r n tag; history-then = with-hold (some (wanted r n tag)) t; steps = 0 }
+
 pub good-hold : (m h : ℕ) (b : Box) (t : History) (l : Log) (k : Good m h b t l) (r n tag : ℕ) → r < register-count → tag < half-word → b .state .held ≡ false → Good m h (hold r n tag b) (hold-request (Getm r n tag) t) (log-held (hold-request (Getm r n tag) t) l)
 unfolding hold hold-request log-held pend
 good-hold m h b t l k r n tag lr tg u =
-    record { m-is = k .m-is; h-is = k .h-is; ghosts = k .ghosts; inv = invariant-hold b (k .ghosts) (k .inv) r n tag lr tg; number = k .number; related = related-hold r n tag b (k .ghosts .plan) t (l .given) (k .number) (k .related); eight = k .eight; cycling = cycle (k .cycling); waiting = one-held refl (record { register = r; size = n; tag = tag }) refl (record { asked = record { register = r; size = n; tag = tag }; history-then = with-hold (some (record { register = r; size = n; tag = tag })) t; steps = 0 }) refl wait; past = k .past }
+    record {
+      m-is = k .m-is;
+      h-is = k .h-is;
+      ghosts = k .ghosts;
+      inv = invariant-hold b (k .ghosts) (k .inv) r n tag lr tg;
+      number = k .number;
+      related = related-hold r n tag b (k .ghosts .plan) t (l .given) (k .number) (k .related);
+      eight = k .eight;
+      cycling = cycle (k .cycling);
+      waiting = one-held refl (wanted r n tag) refl (put-off r n tag t) refl wait;
+      past = k .past;
+    }
   where
     same : left (hold r n tag b) (k .ghosts) ≡ left b (k .ghosts)
     same = left-held r n tag b (k .ghosts) (k .ghosts) (k .inv) (invariant-hold b (k .ghosts) (k .inv) r n tag lr tg)
@@ -133,14 +162,32 @@ good-hold m h b t l k r n tag lr tg u =
     bound : left b (k .ghosts) ≤ 8 * b .state .m + 2
     bound = left-bound-m b (k .ghosts) (k .inv)
 
-    wait : Held (hold r n tag b) (k .ghosts) (with-hold (some (record { register = r; size = n; tag = tag })) t) (record { register = r; size = n; tag = tag }) (record { asked = record { register = r; size = n; tag = tag }; history-then = with-hold (some (record { register = r; size = n; tag = tag })) t; steps = 0 })
-    wait = record { register-is = refl; size-is = refl; tag-is = refl; asked-is = refl; history-is = refl; in-time = omega (arith, same, bound, hold-m r n tag b); in-time-twice = λ x z. omega (arith, same, bound, hold-m r n tag b) }
+    wait : Held (hold r n tag b) (k .ghosts) (with-hold (some (wanted r n tag)) t) (wanted r n tag) (put-off r n tag t)
+    wait =
+        record {
+          register-is = refl;
+          size-is = refl;
+          tag-is = refl;
+          asked-is = refl;
+          history-is = refl;
+          in-time = omega (arith, same, bound, hold-m r n tag b);
+          in-time-twice = λ x z. omega (arith, same, bound, hold-m r n tag b);
+        }
 
-    cycle : Cycling b (k .ghosts) t (k .number) (l .cycle) → Cycling (hold r n tag b) (k .ghosts) (with-hold (some (record { register = r; size = n; tag = tag })) t) (k .number) (l .cycle)
+    cycle : Cycling b (k .ghosts) t (k .number) (l .cycle) → Cycling (hold r n tag b) (k .ghosts) (with-hold (some (wanted r n tag)) t) (k .number) (l .cycle)
     cycle (between p o) = between p o
     cycle (under-way p y o w) =
         under-way p y o
-        (record { tracked = tracked-asked b (k .ghosts .plan) (hold r n tag b) t (with-hold (some (record { register = r; size = n; tag = tag })) t) (k .number) (y .started) (record { phase-same = refl; tuple-same = refl; marked-from = λ x z. inl z; kept-to = hold-quiet r n tag b (k .ghosts .plan) .kept-to }) (record { not-fewer = w .tracked .not-fewer; roots-spared = w .tracked .roots-spared; words-spared = w .tracked .words-spared }) (w .tracked); bounded = λ e. let v : y .steps + left b (k .ghosts) ≤ 8 * y .first-top + 2 = w .bounded e in omega (arith, same); begun-then = λ e f. absurd (false≢true f) })
+        (record {
+          tracked = tracked-asked b (k .ghosts .plan) (hold r n tag b) t (with-hold (some (wanted r n tag)) t) (k .number) (y .started) (record {
+            phase-same = refl;
+            tuple-same = refl;
+            marked-from = λ x z. inl z;
+            kept-to = hold-quiet r n tag b (k .ghosts .plan) .kept-to;
+          }) (record { not-fewer = w .tracked .not-fewer; roots-spared = w .tracked .roots-spared; words-spared = w .tracked .words-spared }) (w .tracked);
+          bounded = λ e. let v : y .steps + left b (k .ghosts) ≤ 8 * y .first-top + 2 = w .bounded e in omega (arith, same);
+          begun-then = λ e f. absurd (false≢true f);
+        })
 
 -- ---- each kind
 
@@ -170,7 +217,12 @@ module _ (m h : ℕ) (b : Box) (t : History) (l : Log) (k : Good m h b t l) (u :
   pub good-register : (q : Request) (r : ℕ) (w : Word) → Inv (put-register r w b) g → Related (put-register r w b) (g .plan) (do-request q t) (given-by q (put-register r w b) (l .given)) (k .number) → Good m h (put-register r w b) (do-request q t) (log-done q (put-register r w b) l)
   good-register q r w v s =
       good-done m h b t l k q (put-register r w b) g (k .number) u (record { m-same = refl; h-same = refl; held-same = refl; phase-same = refl }) v s
-      (λ started x. tracked-asked b (g .plan) (put-register r w b) t (do-request q t) (k .number) started (record { phase-same = refl; tuple-same = refl; marked-from = λ y z. inl z; kept-to = kept-put r w b (g .plan) }) (spared-request t started (tracked-in b (g .plan) t (k .number) started x) (k .eight) q) x)
+      (λ started x. tracked-asked b (g .plan) (put-register r w b) t (do-request q t) (k .number) started (record {
+        phase-same = refl;
+        tuple-same = refl;
+        marked-from = λ y z. inl z;
+        kept-to = kept-put r w b (g .plan);
+      }) (spared-request t started (tracked-in b (g .plan) t (k .number) started x) (k .eight) q) x)
 
   pub good-new : (r n tag : ℕ) → r < register-count → tag < half-word → b .state .free ≢ 0 → b .state .top + n + 1 ≤ b .state .m → Good m h (new-tuple r n tag b) (do-request (Getm r n tag) t) (log-done (Getm r n tag) (new-tuple r n tag b) l)
   unfolding do-request given-by
@@ -199,7 +251,12 @@ module _ (m h : ℕ) (b : Box) (t : History) (l : Log) (k : Good m h b t l) (u :
   good-store r s n lr ls th c sc v st y e mk =
       good-done m h b t l k (Store r s n) c (with-scans sc g) (k .number) u y v
       (related-store b g t (l .given) (k .number) (k .inv) (k .related) (k .eight) c r s n lr ls th st)
-      (λ started x. tracked-asked b (g .plan) c t (do-request (Store r s n) t) (k .number) started (record { phase-same = y .phase-same; tuple-same = e; marked-from = λ z w. from started x z (mk z w); kept-to = st .kept-to }) (spared-request t started (tracked-in b (g .plan) t (k .number) started x) (k .eight) (Store r s n)) x)
+      (λ started x. tracked-asked b (g .plan) c t (do-request (Store r s n) t) (k .number) started (record {
+        phase-same = y .phase-same;
+        tuple-same = e;
+        marked-from = λ z w. from started x z (mk z w);
+        kept-to = st .kept-to;
+      }) (spared-request t started (tracked-in b (g .plan) t (k .number) started x) (k .eight) (Store r s n)) x)
     where
       from : (started : History) → Tracked b (g .plan) t (k .number) started → (z : ℕ) → (marked z b ≡ true) ⊎ ((names-tuple (register r b) ≡ true) × (z ≡ handle-of (register r b))) → (marked z b ≡ true) ⊎ Spared started (k .number z)
       from started x z (inl w) = inl w
@@ -227,9 +284,22 @@ module _ (m h : ℕ) (b : Box) (t : History) (l : Log) (k : Good m h b t l) (u :
 
   pub good-store-shaded : (r s n : ℕ) → r < register-count → s < register-count → There s n b → names-tuple (register r b) ≡ true → 1 ≤ b .state .phase → b .state .phase ≤ 3 → Good m h (write (place-of s n b) (register r b) (set-deep (named s b) true (shade (named r b) b))) (do-request (Store r s n) t) (log-done (Store r s n) (write (place-of s n b) (register r b) (set-deep (named s b) true (shade (named r b) b))) l)
   good-store-shaded r s n lr ls th d p q =
-      good-store r s n lr ls th (write (place-of s n b) (register r b) (set-deep (named s b) true (shade (named r b) b))) (shade-scans (named r b) b (g .scans)) (stores-shaded b g (k .inv) (named s b) (number-in s n b) (stored-kept s n ls th) (th .inside) (register r b) target (record { names = d; phase-least = p; phase-most = q }))
-      (shaded-stored b g (k .inv) (named s b) (number-in s n b) (stored-kept s n ls th) (th .inside) (register r b) target (record { names = d; phase-least = p; phase-most = q }))
-      (record { m-same = w .m-same ∙ shade-alike (named r b) b .m-is; h-same = w .h-same ∙ shade-alike (named r b) b .h-is; held-same = w .held-same ∙ shade-alike (named r b) b .held-is; phase-same = w .phase-same ∙ shade-numbers (named r b) b .phase-is }) (w .tuple-same ∙ shade-numbers (named r b) b .tuple-is)
+      good-store r s n lr ls th (write (place-of s n b) (register r b) (set-deep (named s b) true (shade (named r b) b))) (shade-scans (named r b) b (g .scans)) (stores-shaded b g (k .inv) (named s b) (number-in s n b) (stored-kept s n ls th) (th .inside) (register r b) target (record {
+        names = d;
+        phase-least = p;
+        phase-most = q;
+      }))
+      (shaded-stored b g (k .inv) (named s b) (number-in s n b) (stored-kept s n ls th) (th .inside) (register r b) target (record {
+        names = d;
+        phase-least = p;
+        phase-most = q;
+      }))
+      (record {
+        m-same = w .m-same ∙ shade-alike (named r b) b .m-is;
+        h-same = w .h-same ∙ shade-alike (named r b) b .h-is;
+        held-same = w .held-same ∙ shade-alike (named r b) b .held-is;
+        phase-same = w .phase-same ∙ shade-numbers (named r b) b .phase-is;
+      }) (w .tuple-same ∙ shade-numbers (named r b) b .tuple-is)
       (λ x z. shade-marked-only (named r b) b (λ (y : ℕ). (names-tuple (register r b) ≡ true) × (y ≡ named r b)) (d, refl) x (sym (w .marked-same x) ∙ z))
     where
       target : Kept b (g .plan) (named r b)

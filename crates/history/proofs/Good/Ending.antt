@@ -103,7 +103,18 @@ module _ (m h : ℕ) (b : Box) (t : History) (l : Log) (k : Good m h b t l) (c :
   rested : Waiting (at-rest c) (n .ghosts) t (wait-step (l .pending)) → Good m h (at-rest c) t (log-ended b (at-rest c) t l)
   unfolding log-ended
   rested w =
-      record { m-is = m-same; h-is = h-same; ghosts = n .ghosts; inv = n .inv; number = k .number; related = related; eight = k .eight; cycling = between resting refl; waiting = w; past = ended-now (at-rest c) (l .given) (l .answered) swept-rest (k .past .justly) (k .past .in-time) }
+      record {
+        m-is = m-same;
+        h-is = h-same;
+        ghosts = n .ghosts;
+        inv = n .inv;
+        number = k .number;
+        related = related;
+        eight = k .eight;
+        cycling = between resting refl;
+        waiting = w;
+        past = ended-now (at-rest c) (l .given) (l .answered) swept-rest (k .past .justly) (k .past .in-time);
+      }
 
   -- ---- nothing held: 31
 
@@ -159,7 +170,15 @@ module _ (m h : ℕ) (b : Box) (t : History) (l : Log) (k : Good m h b t l) (c :
           let v : 1 ≤ left b (k .ghosts) = left-positive b (k .ghosts) (k .inv) in
           let w : left (at-rest c) (n .ghosts) ≤ 8 * at-rest c .state .m + 2 = left-bound-m (at-rest c) (n .ghosts) (n .inv) in
           let e : c .state .m ≡ b .state .m = s .m-same in
-          record { register-is = y .what .register-is ∙ sym (s .register-same); size-is = y .what .size-is ∙ sym (s .size-same); tag-is = y .what .tag-is ∙ sym (s .tag-same); asked-is = y .what .asked-is; history-is = y .what .history-is; in-time = omega arith; in-time-twice = λ x z. absurd (z refl) }
+          record {
+            register-is = y .what .register-is ∙ sym (s .register-same);
+            size-is = y .what .size-is ∙ sym (s .size-same);
+            tag-is = y .what .tag-is ∙ sym (s .tag-same);
+            asked-is = y .what .asked-is;
+            history-is = y .what .history-is;
+            in-time = omega arith;
+            in-time-twice = λ x z. absurd (z refl);
+          }
 
   -- ---- it is answered
 
@@ -178,7 +197,18 @@ module _ (m h : ℕ) (b : Box) (t : History) (l : Log) (k : Good m h b t l) (c :
   pub good-dropped : c .state .held ≡ true → c .state .begun ≡ true → (c .state .free ≡ 0) ⊎ (c .state .m < c .state .top + c .state .«hold_size» + 1) → Good m h (unheld (at-rest c)) (with-hold none t) (log-dropped b (unheld (at-rest c)) t l)
   unfolding log-dropped at-rest unheld
   good-dropped p q o =
-      record { m-is = m-same; h-is = h-same; ghosts = n .ghosts; inv = invariant-unheld (at-rest c) (n .ghosts) (n .inv); number = k .number; related = after; eight = k .eight; cycling = between refl refl; waiting = nothing-held refl refl refl; past = ended }
+      record {
+        m-is = m-same;
+        h-is = h-same;
+        ghosts = n .ghosts;
+        inv = invariant-unheld (at-rest c) (n .ghosts) (n .inv);
+        number = k .number;
+        related = after;
+        eight = k .eight;
+        cycling = between refl refl;
+        waiting = nothing-held refl refl refl;
+        past = ended;
+      }
     where
       y : Holding
       y = holding p
@@ -205,7 +235,10 @@ module _ (m h : ℕ) (b : Box) (t : History) (l : Log) (k : Good m h b t l) (c :
       ended : Past m h (end-log-cycle (cycle-step b t (l .cycle)) (unheld (at-rest c)) (l .given) (l .ended)) (answer-hold (wait-step (l .pending)) 8 (l .answered))
       ended =
           subst (λ (x : List Answered). Past m h (end-log-cycle (cycle-step b t (l .cycle)) (unheld (at-rest c)) (l .given) (l .ended)) x) (sym answers)
-          (ended-now (unheld (at-rest c)) (l .given) (record { hold = waited y; answer = 8 } ∷ l .answered) swept (justly, k .past .justly) (in-time-now y, k .past .in-time))
+          (ended-now (unheld (at-rest c)) (l .given) (record {
+            hold = waited y;
+            answer = 8;
+          } ∷ l .answered) swept (justly, k .past .justly) (in-time-now y, k .past .in-time))
 
   -- ---- it is granted: 32
 
@@ -301,7 +334,18 @@ module _ (m h : ℕ) (b : Box) (t : History) (l : Log) (k : Good m h b t l) (c :
     good-wanted : Good m h (unheld made-box) (grant (some wanted) t) (log-granted b (unheld made-box) t l)
     unfolding log-granted unheld grant
     good-wanted =
-        record { m-is = fields .m-same ∙ m-same; h-is = fields .h-same ∙ h-same; ghosts = made-g; inv = invariant-unheld made-box made-g made-inv; number = numbers; related = after-noted; eight = registers-grant (some wanted) t ∙ k .eight; cycling = between rest-phase refl; waiting = nothing-held refl refl refl; past = ended-granted }
+        record {
+          m-is = fields .m-same ∙ m-same;
+          h-is = fields .h-same ∙ h-same;
+          ghosts = made-g;
+          inv = invariant-unheld made-box made-g made-inv;
+          number = numbers;
+          related = after-noted;
+          eight = registers-grant (some wanted) t ∙ k .eight;
+          cycling = between rest-phase refl;
+          waiting = nothing-held refl refl refl;
+          past = ended-granted;
+        }
 
     pub good-granted : Good m h (granted (at-rest c)) (grant (t .hold) t) (log-granted b (granted (at-rest c)) t l)
     unfolding granted at-rest

@@ -26,7 +26,12 @@ module _ (m h : ℕ) (b : Box) (t : History) (l : Log) (k : Good m h b t l) (c :
       first : l .cycle ≡ none → Cycling c (n .ghosts) t (k .number) (cycle-step b t (l .cycle))
       first o =
           let u : left b (k .ghosts) ≤ 8 * b .state .top + 2 = left-bound b (k .ghosts) (k .inv) in
-          under-way (omega arith) (record { started = t; first-top = b .state .top; steps = 1; quiet = true }) (ap (cycle-step b t) o ∙ simp (eq-eqb (b .state .phase) 0 e))
+          under-way (omega arith) (record {
+            started = t;
+            first-top = b .state .top;
+            steps = 1;
+            quiet = true;
+          }) (ap (cycle-step b t) o ∙ simp (eq-eqb (b .state .phase) 0 e))
           (record { tracked = x t (k .number); bounded = λ q. omega arith; begun-then = λ p q. refl })
 
       go : Cycling b (k .ghosts) t (k .number) (l .cycle) → Cycling c (n .ghosts) t (k .number) (cycle-step b t (l .cycle))
@@ -38,7 +43,11 @@ module _ (m h : ℕ) (b : Box) (t : History) (l : Log) (k : Good m h b t l) (c :
       go (between p o) = absurd (d p)
       go (under-way p y o w) =
           under-way f (record { started = y .started; first-top = y .first-top; steps = suc (y .steps); quiet = y .quiet }) (ap (cycle-step b t) o)
-          (record { tracked = x t (l .given) (k .number) (y .started) (k .related) (w .tracked); bounded = λ q. let u : y .steps + left b (k .ghosts) ≤ 8 * y .first-top + 2 = w .bounded q in omega arith; begun-then = λ p q. w .begun-then (sym (s .held-same) ∙ p) (sym a ∙ q) })
+          (record {
+            tracked = x t (l .given) (k .number) (y .started) (k .related) (w .tracked);
+            bounded = λ q. let u : y .steps + left b (k .ghosts) ≤ 8 * y .first-top + 2 = w .bounded q in omega arith;
+            begun-then = λ p q. w .begun-then (sym (s .held-same) ∙ p) (sym a ∙ q);
+          })
 
   -- the hold
   waiting-on : Track b (k .ghosts) c (n .ghosts .plan) → Waiting c (n .ghosts) t (wait-step (l .pending))
@@ -56,9 +65,28 @@ module _ (m h : ℕ) (b : Box) (t : History) (l : Log) (k : Good m h b t l) (c :
       go (nothing-held p x o) = nothing-held (s .held-same ∙ p) x (ap wait-step o)
       go (one-held p q x w o y) =
           one-held (s .held-same ∙ p) q x (record { asked = w .asked; history-then = w .history-then; steps = suc (w .steps) }) (ap wait-step o)
-          (record { register-is = y .register-is ∙ sym (s .register-same); size-is = y .size-is ∙ sym (s .size-same); tag-is = y .tag-is ∙ sym (s .tag-same); asked-is = y .asked-is; history-is = y .history-is; in-time = let u : w .steps + left b (k .ghosts) ≤ 16 * b .state .m + 4 = y .in-time in let v : c .state .m ≡ b .state .m = s .m-same in omega arith; in-time-twice = twice q w p y z })
+          (record {
+            register-is = y .register-is ∙ sym (s .register-same);
+            size-is = y .size-is ∙ sym (s .size-same);
+            tag-is = y .tag-is ∙ sym (s .tag-same);
+            asked-is = y .asked-is;
+            history-is = y .history-is;
+            in-time = let u : w .steps + left b (k .ghosts) ≤ 16 * b .state .m + 4 = y .in-time in let v : c .state .m ≡ b .state .m = s .m-same in omega arith;
+            in-time-twice = twice q w p y z;
+          })
 
   pub good-on : Track b (k .ghosts) c (n .ghosts .plan) → Good m h c t (log-going b t l)
   unfolding log-going
   good-on z =
-      record { m-is = s .m-same ∙ k .m-is; h-is = s .h-same ∙ k .h-is; ghosts = n .ghosts; inv = n .inv; number = k .number; related = related-calm b c (k .ghosts .plan) (n .ghosts .plan) t (l .given) (k .number) (n .calm) (s .h-same) (k .related); eight = k .eight; cycling = cycling-on z; waiting = waiting-on z; past = k .past }
+      record {
+        m-is = s .m-same ∙ k .m-is;
+        h-is = s .h-same ∙ k .h-is;
+        ghosts = n .ghosts;
+        inv = n .inv;
+        number = k .number;
+        related = related-calm b c (k .ghosts .plan) (n .ghosts .plan) t (l .given) (k .number) (n .calm) (s .h-same) (k .related);
+        eight = k .eight;
+        cycling = cycling-on z;
+        waiting = waiting-on z;
+        past = k .past;
+      }

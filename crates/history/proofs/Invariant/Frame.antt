@@ -37,14 +37,32 @@ pub record SameShape (b c : Box) : Type 0 where
 
 pub shape-same : (b c : Box) → SameShape b c → Shape b → Shape c
 shape-same b c s p =
-    record { range = rw (s .m-same, s .h-same) (p .range); words-length = s .words-same ∙ p .words-length ∙ sym (s .m-same); flags-length = s .flags-same ∙ p .flags-length ∙ sym (s .m-same); addresses-length = s .addresses-same ∙ p .addresses-length ∙ sym (s .h-same); sizes-length = s .sizes-same ∙ p .sizes-length ∙ sym (s .h-same); links-length = s .links-same ∙ p .links-length ∙ sym (s .h-same); marks-length = s .marks-same ∙ p .marks-length ∙ sym (s .h-same); deeps-length = s .deeps-same ∙ p .deeps-length ∙ sym (s .h-same); registers-length = s .registers-same ∙ p .registers-length; register-flags-length = s .register-flags-same ∙ p .register-flags-length; held-register = λ e. subst (λ (t : ℕ × ℕ). (t .0 < register-count) × (t .1 < half-word)) (sym (s .held-same e .1)) (p .held-register (s .held-same e .0)) }
+    record {
+      range = rw (s .m-same, s .h-same) (p .range);
+      words-length = s .words-same ∙ p .words-length ∙ sym (s .m-same);
+      flags-length = s .flags-same ∙ p .flags-length ∙ sym (s .m-same);
+      addresses-length = s .addresses-same ∙ p .addresses-length ∙ sym (s .h-same);
+      sizes-length = s .sizes-same ∙ p .sizes-length ∙ sym (s .h-same);
+      links-length = s .links-same ∙ p .links-length ∙ sym (s .h-same);
+      marks-length = s .marks-same ∙ p .marks-length ∙ sym (s .h-same);
+      deeps-length = s .deeps-same ∙ p .deeps-length ∙ sym (s .h-same);
+      registers-length = s .registers-same ∙ p .registers-length;
+      register-flags-length = s .register-flags-same ∙ p .register-flags-length;
+      held-register = λ e. subst (λ (t : ℕ × ℕ). (t .0 < register-count) × (t .1 < half-word)) (sym (s .held-same e .1)) (p .held-register (s .held-same e .0));
+    }
 
 -- ---- handles
 
 -- the handles in other lists, each once as before
 pub handles-moved : (b c : Box) (p q : Plan) (free free′ : List ℕ) → Perm (all p free) (all q free′) → c .state .h ≡ b .state .h → Chain (c .links) (c .state .free) free′ → Handles b p free → Handles c q free′
 handles-moved b c p q free free′ m e ch i =
-    record { distinct = perm-distinct m (i .distinct); entries = λ h x. rw e (i .entries h (perm-member (perm-sym m) h x)); every = λ h l u. perm-member m h (i .every h l (rw e at u)); count = ap suc (sym (perm-length m)) ∙ i .count ∙ sym e; free-chain = ch }
+    record {
+      distinct = perm-distinct m (i .distinct);
+      entries = λ h x. rw e (i .entries h (perm-member (perm-sym m) h x));
+      every = λ h l u. perm-member m h (i .every h l (rw e at u));
+      count = ap suc (sym (perm-length m)) ∙ i .count ∙ sym e;
+      free-chain = ch;
+    }
 
 -- the same lists
 pub handles-same : (b c : Box) (p : Plan) (free : List ℕ) → c .state .h ≡ b .state .h → Chain (c .links) (c .state .free) free → Handles b p free → Handles c p free
@@ -56,7 +74,12 @@ handles-same b c p free e ch i =
 -- addresses, sizes and memory as they were
 pub layout-same : (b c : Box) (p : Plan) → ((h : ℕ) → address h c ≡ address h b) → ((h : ℕ) → size-of h c ≡ size-of h b) → ((a : ℕ) → word-at a c ≡ word-at a b) → c .state .top ≡ b .state .top → c .state .m ≡ b .state .m → Layout b p → Layout c p
 layout-same b c p ad sz wd t m l =
-    record { done-laid = laid-frame b c 0 (p .done) (p .low) (λ h x. ad h) (λ h x. sz h) (λ h x. wd (address h b)) (l .done-laid); ahead-laid = laid-to c (p .base) (p .ahead) (b .state .top) (c .state .top) (sym t) (laid-frame b c (p .base) (p .ahead) (b .state .top) (λ h x. ad h) (λ h x. sz h) (λ h x. wd (address h b)) (l .ahead-laid)); low-base = rw (rooms-frame b c (p .mid) (λ h x. sz h)) (l .low-base); top-fits = rw (t, m) (l .top-fits) }
+    record {
+      done-laid = laid-frame b c 0 (p .done) (p .low) (λ h x. ad h) (λ h x. sz h) (λ h x. wd (address h b)) (l .done-laid);
+      ahead-laid = laid-to c (p .base) (p .ahead) (b .state .top) (c .state .top) (sym t) (laid-frame b c (p .base) (p .ahead) (b .state .top) (λ h x. ad h) (λ h x. sz h) (λ h x. wd (address h b)) (l .ahead-laid));
+      low-base = rw (rooms-frame b c (p .mid) (λ h x. sz h)) (l .low-base);
+      top-fits = rw (t, m) (l .top-fits);
+    }
 
 -- ---- zero
 
@@ -98,7 +121,13 @@ pub record Calm (b : Box) (p : Plan) (c : Box) (q : Plan) : Type 0 where
   pub words-same : (h : ℕ) → Kept c q h → (i : ℕ) → i ≤ size-of h b → word h i c ≡ word h i b
 
 pub quiet-calm : (b : Box) (p : Plan) (c : Box) (q : Plan) → Quiet b p c q → Calm b p c q
-quiet-calm b p c q s = record { kept-to = s .kept-to; roots-same = s .roots-same; sizes-same = λ h k. s .sizes-same h (s .kept-to h k); words-same = λ h k. s .words-same h (s .kept-to h k) }
+quiet-calm b p c q s =
+    record {
+      kept-to = s .kept-to;
+      roots-same = s .roots-same;
+      sizes-same = λ h k. s .sizes-same h (s .kept-to h k);
+      words-same = λ h k. s .words-same h (s .kept-to h k);
+    }
 
 -- what is shown of each transition of the collector, from b with ghosts g to c: ghosts with which the invariant holds of c
 pub record Next (b : Box) (g : Ghosts) (c : Box) : Type 0 where
@@ -119,7 +148,19 @@ kept-same b c p u m h (surviving x t) = surviving x (m h t)
 pub marks-same : (b c : Box) (p : Plan) (free : List ℕ) (s : Scans) → ((h : ℕ) → marked h c ≡ marked h b) → ((h : ℕ) → deep h c ≡ deep h b) → ((h : ℕ) → size-of h c ≡ size-of h b) → c .links ≡ b .links → c .state .live ≡ b .state .live → c .state .next ≡ b .state .next → c .state .current ≡ b .state .current
     → (c .state .phase ≤ 3 → b .state .phase ≤ 3) → (c .state .phase ≤ 3 → (h i : ℕ) → word h i c ≡ word h i b) → Marks b p free s → Marks c p free s
 marks-same b c p free s mk dp sz ln lv nx cr ph wd i =
-    record { free-unmarked = λ h x. mk h ∙ i .free-unmarked h x; done-unmarked = λ h x. mk h ∙ i .done-unmarked h x; mid-unmarked = λ h x. mk h ∙ i .mid-unmarked h x; live-is = lv ∙ i .live-is ∙ ap (λ (z : ℕ). p .low + z) (sums); nexts-chain = rw (ln, nx) (i .nexts-chain); currents-chain = rw (ln, cr) (i .currents-chain); listed-distinct = i .listed-distinct; listed-ahead = i .listed-ahead; listed-marked = λ h x. mk h ∙ i .listed-marked h x; listed-deep = λ h x. dp h ∙ i .listed-deep h x; black = dark }
+    record {
+      free-unmarked = λ h x. mk h ∙ i .free-unmarked h x;
+      done-unmarked = λ h x. mk h ∙ i .done-unmarked h x;
+      mid-unmarked = λ h x. mk h ∙ i .mid-unmarked h x;
+      live-is = lv ∙ i .live-is ∙ ap (λ (z : ℕ). p .low + z) (sums);
+      nexts-chain = rw (ln, nx) (i .nexts-chain);
+      currents-chain = rw (ln, cr) (i .currents-chain);
+      listed-distinct = i .listed-distinct;
+      listed-ahead = i .listed-ahead;
+      listed-marked = λ h x. mk h ∙ i .listed-marked h x;
+      listed-deep = λ h x. dp h ∙ i .listed-deep h x;
+      black = dark;
+    }
   where
     sums : rooms b (p .mid) + marked-rooms b (p .ahead) ≡ rooms c (p .mid) + marked-rooms c (p .ahead)
     sums = sym (ap₂ (λ (x y : ℕ). x + y) (rooms-frame b c (p .mid) (λ h x. sz h)) (marked-rooms-frame b c (p .ahead) (λ h x. sz h) (λ h x. mk h)))

@@ -33,7 +33,20 @@ pub record Finished (c : Box) (hs free : List ℕ) : Type 0 where
 
 rest-shape : (c : Box) → Shape c → Shape (at-rest c)
 unfolding at-rest
-rest-shape c s = record { range = s .range; words-length = s .words-length; flags-length = s .flags-length; addresses-length = s .addresses-length; sizes-length = s .sizes-length; links-length = s .links-length; marks-length = s .marks-length; deeps-length = s .deeps-length; registers-length = s .registers-length; register-flags-length = s .register-flags-length; held-register = s .held-register }
+rest-shape c s =
+    record {
+      range = s .range;
+      words-length = s .words-length;
+      flags-length = s .flags-length;
+      addresses-length = s .addresses-length;
+      sizes-length = s .sizes-length;
+      links-length = s .links-length;
+      marks-length = s .marks-length;
+      deeps-length = s .deeps-length;
+      registers-length = s .registers-length;
+      register-flags-length = s .register-flags-length;
+      held-register = s .held-register;
+    }
 
 rest-handles : (c : Box) (hs free : List ℕ) → Handles c (resting-plan hs) free → Handles (at-rest c) (resting-plan hs) free
 unfolding at-rest
@@ -41,7 +54,13 @@ rest-handles c hs free i = record { distinct = i .distinct; entries = i .entries
 
 rest-layout : (c : Box) (hs free : List ℕ) → Finished c hs free → Layout (at-rest c) (resting-plan hs)
 unfolding at-rest rooms
-rest-layout c hs free f = record { done-laid = refl; ahead-laid = laid-frame c (at-rest c) 0 hs (c .state .top) (λ h x. refl) (λ h x. refl) (λ h x. refl) (f .laid); low-base = omega arith; top-fits = f .top-fits }
+rest-layout c hs free f =
+    record {
+      done-laid = refl;
+      ahead-laid = laid-frame c (at-rest c) 0 hs (c .state .top) (λ h x. refl) (λ h x. refl) (λ h x. refl) (f .laid);
+      low-base = omega arith;
+      top-fits = f .top-fits;
+    }
 
 rest-zero : (c : Box) (hs free : List ℕ) → Finished c hs free → Zero (at-rest c) 0
 unfolding at-rest
@@ -49,11 +68,39 @@ rest-zero c hs free f = record { above-top = f .above-top; behind = λ a l u. ab
 
 rest-marks : (c : Box) (hs free : List ℕ) → Finished c hs free → Marks (at-rest c) (resting-plan hs) free (resting hs free .scans)
 unfolding at-rest rooms
-rest-marks c hs free f = record { free-unmarked = f .free-unmarked; done-unmarked = λ h x. absurd x; mid-unmarked = λ h x. absurd x; live-is = simp (marked-rooms-none (at-rest c) hs (f .unmarked)); nexts-chain = f .no-next; currents-chain = f .no-current; listed-distinct = tt; listed-ahead = λ h x. absurd x; listed-marked = λ h x. absurd x; listed-deep = λ h x. absurd x; black = λ l h x t. absurd (false≢true (sym (f .unmarked h x) ∙ t)) }
+rest-marks c hs free f =
+    record {
+      free-unmarked = f .free-unmarked;
+      done-unmarked = λ h x. absurd x;
+      mid-unmarked = λ h x. absurd x;
+      live-is = simp (marked-rooms-none (at-rest c) hs (f .unmarked));
+      nexts-chain = f .no-next;
+      currents-chain = f .no-current;
+      listed-distinct = tt;
+      listed-ahead = λ h x. absurd x;
+      listed-marked = λ h x. absurd x;
+      listed-deep = λ h x. absurd x;
+      black = λ l h x t. absurd (false≢true (sym (f .unmarked h x) ∙ t));
+    }
 
 pub finished : (c : Box) (hs free : List ℕ) → Finished c hs free → Inv (at-rest c) (resting hs free)
 unfolding at-rest
-finished c hs free f = record { shape = rest-shape c (f .shape); handles = rest-handles c hs free (f .handles); layout = rest-layout c hs free f; contents = f .contents; zero-words = rest-zero c hs free f; marks = rest-marks c hs free f; stage = Stage.at-rest refl (record { no-done = refl; no-mid = refl; low-zero = refl; base-zero = refl; zeroed-zero = refl }) (record { no-nexts = refl; no-currents = refl; no-gray = refl }) (f .unmarked) }
+finished c hs free f =
+    record {
+      shape = rest-shape c (f .shape);
+      handles = rest-handles c hs free (f .handles);
+      layout = rest-layout c hs free f;
+      contents = f .contents;
+      zero-words = rest-zero c hs free f;
+      marks = rest-marks c hs free f;
+      stage = Stage.at-rest refl (record {
+        no-done = refl;
+        no-mid = refl;
+        low-zero = refl;
+        base-zero = refl;
+        zeroed-zero = refl;
+      }) (record { no-nexts = refl; no-currents = refl; no-gray = refl }) (f .unmarked);
+    }
 
 -- where no tuple is left, none is kept
 pub none-kept : (b : Box) (h : ℕ) → ¬ Kept b (resting-plan []) h

@@ -160,8 +160,28 @@ shade-hold h b = go (marked h b) refl (deep h b) refl
   where
     go : (s : Bool) → marked h b ≡ s → (t : Bool) → deep h b ≡ t → SameHold b (shade h b) × (shade h b .state .begun ≡ b .state .begun)
     go true f t e = (record { m-same = simp f; h-same = simp f; held-same = simp f; register-same = simp f; size-same = simp f; tag-same = simp f }, simp f)
-    go false f true e = (record { m-same = simp (f, e); h-same = simp (f, e); held-same = simp (f, e); register-same = simp (f, e); size-same = simp (f, e); tag-same = simp (f, e) }, simp (f, e))
-    go false f false e = (record { m-same = simp (f, e); h-same = simp (f, e); held-same = simp (f, e); register-same = simp (f, e); size-same = simp (f, e); tag-same = simp (f, e) }, simp (f, e))
+    go false f true e = (
+      record {
+        m-same = simp (f, e);
+        h-same = simp (f, e);
+        held-same = simp (f, e);
+        register-same = simp (f, e);
+        size-same = simp (f, e);
+        tag-same = simp (f, e);
+      },
+      simp (f, e),
+    )
+    go false f false e = (
+      record {
+        m-same = simp (f, e);
+        h-same = simp (f, e);
+        held-same = simp (f, e);
+        register-same = simp (f, e);
+        size-same = simp (f, e);
+        tag-same = simp (f, e);
+      },
+      simp (f, e),
+    )
 
 step-shades-root : (b : Box) (g : Ghosts) → Inv b g → b .state .phase ≡ 1 → (r : ℕ) → r < register-count → names-tuple (register r b) ≡ true
     → marked (handle-of (register r b)) b ≡ false → step b ≡ going (shade (handle-of (register r b)) b) → Stepped b g

@@ -161,7 +161,11 @@ invariant-request q b g w v = go w (asked q b)
     go w (Asked.stores-marked {r} {s} {k} f h l u t n a z x m e) = done e g (stores-marked b g v (named s b) (number s k b) (there-kept b g v s k u t) (t .inside) (register r b) (v .contents .roots-kept r l n) m)
     go w (Asked.stores-unmarked {r} {s} {k} f h l u t n a z x m i e) =
         done e (with-scans (shade-scans (named r b) b (g .scans)) g)
-        (stores-shaded b g v (named s b) (number s k b) (there-kept b g v s k u t) (t .inside) (register r b) (v .contents .roots-kept r l n) (record { names = n; phase-least = a; phase-most = z }))
+        (stores-shaded b g v (named s b) (number s k b) (there-kept b g v s k u t) (t .inside) (register r b) (v .contents .roots-kept r l n) (record {
+          names = n;
+          phase-least = a;
+          phase-most = z;
+        }))
     go w (Asked.gives-size {r} {s} f h l u n x e) = done e g (register-takes-data b g v r (size-of (named s b) b) l)
     go w (Asked.gives-nil-size {r} f h l u n x e) = done e g (register-takes-data b g v r 0 l)
     go w (Asked.gives-tag {r} {s} f h l u n x i e) = done e g (register-takes-data b g v r (tag-of (read (place (named s b) 0 b) b)) l)

@@ -55,7 +55,10 @@ left-same b g c g′ v w s h o p e =
     let columns = same-columns b c (g .plan .base) (g .plan .ahead) (s .heap .addresses-are) (s .heap .sizes-are) (s .heap .words-are) (s .heap .flags-are) (s .heap .top-is) in
     let ahead : g′ .plan .ahead ≡ g .plan .ahead = ahead-carried b c g′ (g .plan .base) (g .plan .ahead) (v .layout .ahead-laid) columns w (base-same b g c g′ v w p e (o .size)) in
     ap (λ (n : ℕ). left-in n c g′) p ∙
-    left-in-same (b .state .phase) b g c g′ (record { same = record { sizes = same-sizes b c (s .heap); ahead = ahead }; marks = same-marks b c s }) (same-lists b g c g′ v w s h) o
+    left-in-same (b .state .phase) b g c g′ (record {
+      same = record { sizes = same-sizes b c (s .heap); ahead = ahead };
+      marks = same-marks b c s;
+    }) (same-lists b g c g′ v w s h) o
 
 -- a request is put on hold
 pub left-held : (r n tag : ℕ) (b : Box) (g g′ : Ghosts) → Inv b g → Inv (hold r n tag b) g′ → left (hold r n tag b) g′ ≡ left b g

@@ -55,8 +55,16 @@ step-left b g v a g′ w = by-view (view b)
     by-view (shades-root s p n r l t y f m e) = leaves (shade (handle-of (register r b)) b) e (λ x. fewer-shades-root b g g′ v p r l t f x)
     by-view (ends-empty s p n r t e) = ended b e
     by-view (begins-sweep s p n r t e) = leaves (begin-sweep b) e (λ x. fewer-begins-sweep b g g′ v p x)
-    by-view (scans-data s p i m n e) = leaves (scanned-data-box b) e (λ x. left-scans-data b g (scanned-data-box b) g′ v x p p (search) (search) (record { size = refl; index = refl; within = i }))
-    by-view (scans-pointer s p i m n e) = leaves (scanned-pointer-box b) e (λ x. left-scans-pointer b g (scanned-pointer-box b) g′ v x p refl (search) (search) (record { size = refl; index = refl; within = i }))
+    by-view (scans-data s p i m n e) = leaves (scanned-data-box b) e (λ x. left-scans-data b g (scanned-data-box b) g′ v x p p (search) (search) (record {
+      size = refl;
+      index = refl;
+      within = i;
+    }))
+    by-view (scans-pointer s p i m n e) = leaves (scanned-pointer-box b) e (λ x. left-scans-pointer b g (scanned-pointer-box b) g′ v x p refl (search) (search) (record {
+      size = refl;
+      index = refl;
+      within = i;
+    }))
     by-view (scan-ends s p i c e) = leaves (to-phase 1 b) e (λ x. fewer-scan-ends b g g′ v p x)
     by-view (takes-current s p i n t e) = leaves (scan (b .state .current) b) e (λ x. fewer-takes-current b g g′ v p n x)
     by-view (adds-marked s p t m e) = leaves (to-phase 2 b) e (λ x. fewer-adds-marked b g g′ v p x)

@@ -36,7 +36,24 @@ pub record Alike (b c : Box) : Type 0 where
 
 -- only the state differs
 pub alike-state : (b : Box) (s : State) → s .m ≡ b .state .m → s .h ≡ b .state .h → s .registers ≡ b .state .registers → s .flags ≡ b .state .flags → s .top ≡ b .state .top → s .free ≡ b .state .free → s .held ≡ b .state .held → hold-of (with-state s b) ≡ hold-of b → Alike b (with-state s b)
-alike-state b s m h r f t q d e = record { words-are = refl; flags-are = refl; addresses-are = refl; sizes-are = refl; deeps-are = refl; links-length = refl; marks-length = refl; m-is = m; h-is = h; registers-are = r; register-flags-are = f; top-is = t; free-is = q; held-is = d; hold-is = e }
+alike-state b s m h r f t q d e =
+    record {
+      words-are = refl;
+      flags-are = refl;
+      addresses-are = refl;
+      sizes-are = refl;
+      deeps-are = refl;
+      links-length = refl;
+      marks-length = refl;
+      m-is = m;
+      h-is = h;
+      registers-are = r;
+      register-flags-are = f;
+      top-is = t;
+      free-is = q;
+      held-is = d;
+      hold-is = e;
+    }
 
 -- ---- what is read off them
 
@@ -66,7 +83,20 @@ word-alike b c s lb lc h i =
 -- ---- the groups
 
 pub shape-alike : (b c : Box) → Alike b c → Shape b → Shape c
-shape-alike b c s = shape-same b c (record { m-same = s .m-is; h-same = s .h-is; words-same = ap length (s .words-are); flags-same = ap length (s .flags-are); addresses-same = ap length (s .addresses-are); sizes-same = ap length (s .sizes-are); links-same = s .links-length; marks-same = s .marks-length; deeps-same = ap length (s .deeps-are); registers-same = ap length (s .registers-are); register-flags-same = ap length (s .register-flags-are); held-same = λ e. (sym (s .held-is) ∙ e, s .hold-is) })
+shape-alike b c s = shape-same b c (record {
+  m-same = s .m-is;
+  h-same = s .h-is;
+  words-same = ap length (s .words-are);
+  flags-same = ap length (s .flags-are);
+  addresses-same = ap length (s .addresses-are);
+  sizes-same = ap length (s .sizes-are);
+  links-same = s .links-length;
+  marks-same = s .marks-length;
+  deeps-same = ap length (s .deeps-are);
+  registers-same = ap length (s .registers-are);
+  register-flags-same = ap length (s .register-flags-are);
+  held-same = λ e. (sym (s .held-is) ∙ e, s .hold-is);
+})
 
 pub handles-alike : (b c : Box) (p : Plan) (free : List ℕ) → Alike b c → Chain (c .links) (b .state .free) free → Handles b p free → Handles c p free
 handles-alike b c p free s ch = handles-same b c p free (s .h-is) (subst (λ (n : ℕ). Chain (c .links) n free) (sym (s .free-is)) ch)
@@ -88,7 +118,14 @@ kept-alike b c p l h (surviving x t) = unswept x l
 
 pub quiet-alike : (b c : Box) (p : Plan) → Alike b c → b .state .phase ≤ 3 → c .state .phase ≤ 3 → Quiet b p c p
 quiet-alike b c p s lb lc =
-    record { kept-to = kept-alike c b p lb; kept-from = kept-alike b c p lc; roots-same = register-alike b c s; sizes-same = λ h k. size-alike b c s h; words-same = λ h k i l. word-alike b c s (omega arith) (omega arith) h i; deeps-same = λ h k. deep-alike b c s h }
+    record {
+      kept-to = kept-alike c b p lb;
+      kept-from = kept-alike b c p lc;
+      roots-same = register-alike b c s;
+      sizes-same = λ h k. size-alike b c s h;
+      words-same = λ h k i l. word-alike b c s (omega arith) (omega arith) h i;
+      deeps-same = λ h k. deep-alike b c s h;
+    }
 
 -- ---- the marks
 

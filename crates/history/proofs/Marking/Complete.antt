@@ -22,7 +22,12 @@ use Rattle.history.proofs.View.Step.{RootsMarked}
 
 -- with next 0, in phase 1, no tuple waits for a scan
 pub none-listed : (b : Box) (g : Ghosts) → Inv b g → b .state .phase ≡ 1 → b .state .next ≡ 0 → Unlisted g
-none-listed b g i e z = record { no-nexts = chain-empty (b .links) (b .state .next) (g .scans .nexts) (i .marks .nexts-chain) least z; no-currents = f .no-currents; no-gray = f .no-gray }
+none-listed b g i e z =
+    record {
+      no-nexts = chain-empty (b .links) (b .state .next) (g .scans .nexts) (i .marks .nexts-chain) least z;
+      no-currents = f .no-currents;
+      no-gray = f .no-gray;
+    }
   where
     f : Finds b g
     f = finds-of b g (i .stage) e
@@ -46,7 +51,11 @@ begin-marked b g h u (surviving x t) = t
 
 begin-contents : (b : Box) (g : Ghosts) → Inv b g → b .state .phase ≡ 1 → b .state .next ≡ 0 → RootsMarked b → Contents (begin-sweep b) (g .plan)
 unfolding begin-sweep
-begin-contents b g i e z roots = record { roots-kept = λ r l n. surviving (kept-ahead b g (handle-of (register r b)) u (i .contents .roots-kept r l n)) (roots r l n); words-kept = inside }
+begin-contents b g i e z roots =
+    record {
+      roots-kept = λ r l n. surviving (kept-ahead b g (handle-of (register r b)) u (i .contents .roots-kept r l n)) (roots r l n);
+      words-kept = inside;
+    }
   where
     c : Box
     c = begin-sweep b
@@ -77,7 +86,12 @@ begins-sweep-onward b g i e z roots t =
         marks = marks-same b c (g .plan) (g .free) (g .scans) (λ h. refl) (λ h. refl) (λ h. refl) refl refl refl refl (λ l. absurd (omega arith)) (λ l. absurd (omega arith)) (i .marks);
         stage = sweeping refl (none-listed b g i e z) (u .no-mid) (u .low-zero) (u .base-zero) (u .zeroed-zero) (front .rest) first-is;
       };
-      calm = record { kept-to = kept-alike c b (g .plan) (omega arith); roots-same = register-alike b c a; sizes-same = λ h x. refl; words-same = λ h x j l. word-alike b c a (omega arith) (omega arith) h j };
+      calm = record {
+        kept-to = kept-alike c b (g .plan) (omega arith);
+        roots-same = register-alike b c a;
+        sizes-same = λ h x. refl;
+        words-same = λ h x j l. word-alike b c a (omega arith) (omega arith) h j;
+      };
     }
   where
     c : Box
@@ -110,7 +124,11 @@ none-handles b g i u t = handles-moved b b (g .plan) (resting-plan []) (g .free)
 
 none-contents : (b : Box) (g : Ghosts) → Inv b g → Unswept g → b .state .top ≡ 0 → Contents (at-rest b) (resting-plan [])
 unfolding at-rest
-none-contents b g i u t = record { roots-kept = λ r l n. absurd (subst (λ (hs : List ℕ). Member (handle-of (register r b)) hs) (none-ahead b g i u t) (kept-ahead b g (handle-of (register r b)) u (i .contents .roots-kept r l n))); words-kept = λ h x. absurd (none-kept (at-rest b) h x) }
+none-contents b g i u t =
+    record {
+      roots-kept = λ r l n. absurd (subst (λ (hs : List ℕ). Member (handle-of (register r b)) hs) (none-ahead b g i u t) (kept-ahead b g (handle-of (register r b)) u (i .contents .roots-kept r l n)));
+      words-kept = λ h x. absurd (none-kept (at-rest b) h x);
+    }
 
 pub ends-empty-finished : (b : Box) (g : Ghosts) → Inv b g → b .state .phase ≡ 1 → b .state .next ≡ 0 → b .state .top ≡ 0 → Finished b [] (g .free)
 ends-empty-finished b g i e z t =
@@ -135,4 +153,10 @@ ends-empty-inv b g i e z t = finished b [] (g .free) (ends-empty-finished b g i 
 
 pub ends-empty-calm : (b : Box) (p : Plan) → Calm b p (at-rest b) (resting-plan [])
 unfolding at-rest
-ends-empty-calm b p = record { kept-to = λ h x. absurd (none-kept (at-rest b) h x); roots-same = λ r. refl; sizes-same = λ h x. refl; words-same = λ h x. absurd (none-kept (at-rest b) h x) }
+ends-empty-calm b p =
+    record {
+      kept-to = λ h x. absurd (none-kept (at-rest b) h x);
+      roots-same = λ r. refl;
+      sizes-same = λ h x. refl;
+      words-same = λ h x. absurd (none-kept (at-rest b) h x);
+    }

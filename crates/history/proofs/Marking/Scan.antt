@@ -52,11 +52,38 @@ seen-more b g x P s l f last k u = go (ℕ-discrete (k + 1) (b .state .index))
 
 -- a box of another phase
 alike-phase : (b c : Box) (p : ℕ) → Alike b c → Alike b (to-phase p c)
-alike-phase b c p a = record { words-are = a .words-are; flags-are = a .flags-are; addresses-are = a .addresses-are; sizes-are = a .sizes-are; deeps-are = a .deeps-are; links-length = a .links-length; marks-length = a .marks-length; m-is = a .m-is; h-is = a .h-is; registers-are = a .registers-are; register-flags-are = a .register-flags-are; top-is = a .top-is; free-is = a .free-is; held-is = a .held-is; hold-is = a .hold-is }
+alike-phase b c p a =
+    record {
+      words-are = a .words-are;
+      flags-are = a .flags-are;
+      addresses-are = a .addresses-are;
+      sizes-are = a .sizes-are;
+      deeps-are = a .deeps-are;
+      links-length = a .links-length;
+      marks-length = a .marks-length;
+      m-is = a .m-is;
+      h-is = a .h-is;
+      registers-are = a .registers-are;
+      register-flags-are = a .register-flags-are;
+      top-is = a .top-is;
+      free-is = a .free-is;
+      held-is = a .held-is;
+      hold-is = a .hold-is;
+    }
 
 -- the tuples that wait stay as they are, and the collector's place in the scan alone changes
 relisted-same : (b : Box) (g : Ghosts) (c : Box) → Inv b g → c .links ≡ b .links → c .marks ≡ b .marks → c .state .live ≡ b .state .live → c .state .next ≡ b .state .next → c .state .current ≡ b .state .current → Relisted b c (g .scans) (g .scans)
-relisted-same b g c i ln mk lv nx cr = record { links-are = ln; marks-are = mk; live-is = lv; nexts-chain = rw (ln, nx) (i .marks .nexts-chain); currents-chain = rw (ln, cr) (i .marks .currents-chain); distinct = i .marks .listed-distinct; none-added = λ h x. x; out-black = λ h x o. absurd (o x) }
+relisted-same b g c i ln mk lv nx cr =
+    record {
+      links-are = ln;
+      marks-are = mk;
+      live-is = lv;
+      nexts-chain = rw (ln, nx) (i .marks .nexts-chain);
+      currents-chain = rw (ln, cr) (i .marks .currents-chain);
+      distinct = i .marks .listed-distinct;
+      none-added = λ h x. x;
+      out-black = λ h x o. absurd (o x);
+    }
 
 -- ---- 2 Mark scan
 
@@ -64,7 +91,13 @@ pub scans-data-onward : (b : Box) (g : Ghosts) → Inv b g → b .state .phase �
     → Onward b g (scanned-data-box b) (g .scans)
 scans-data-onward b g i e l n =
     relists b g c (g .scans) i alike (omega arith) (omega arith) (relisted-same b g c i refl refl refl refl refl)
-    (scanning e (unswept-scans g (g .scans) (f .unswept-yet)) x (record { gray-is = s .gray-is; src-is = s .src-is; size-is = s .size-is; index-least = omega arith; index-most = omega arith }) seen)
+    (scanning e (unswept-scans g (g .scans) (f .unswept-yet)) x (record {
+      gray-is = s .gray-is;
+      src-is = s .src-is;
+      size-is = s .size-is;
+      index-least = omega arith;
+      index-most = omega arith;
+    }) seen)
   where
     c : Box
     c = scanned-data-box b
@@ -91,7 +124,13 @@ pub scans-pointer-onward : (b : Box) (g : Ghosts) → Inv b g → b .state .phas
     → Onward b g (scanned-pointer-box b) (g .scans)
 scans-pointer-onward b g i e l n =
     relists b g c (g .scans) i alike (omega arith) (omega arith) (relisted-same b g c i refl refl refl refl refl)
-    (adding refl (unswept-scans g (g .scans) (f .unswept-yet)) x (record { gray-is = s .gray-is; src-is = s .src-is; size-is = s .size-is; index-least = omega arith; index-most = omega arith }) there seen)
+    (adding refl (unswept-scans g (g .scans) (f .unswept-yet)) x (record {
+      gray-is = s .gray-is;
+      src-is = s .src-is;
+      size-is = s .size-is;
+      index-least = omega arith;
+      index-most = omega arith;
+    }) there seen)
   where
     y : ℕ
     y = handle-of (word-at (b .state .src + b .state .index) b)
@@ -145,7 +184,16 @@ from-scan s = record { nexts = s .nexts; currents = []; gray = [] }
 pub scan-ends-onward : (b : Box) (g : Ghosts) → Inv b g → b .state .phase ≡ 2 → b .state .size < b .state .index → b .state .current ≡ 0 → Onward b g (to-phase 1 b) (from-scan (g .scans))
 scan-ends-onward b g i e l z =
     relists b g (to-phase 1 b) left i (alike-state b (to-phase 1 b .state) refl refl refl refl refl refl refl refl) (omega arith) (omega arith)
-    (record { links-are = refl; marks-are = refl; live-is = refl; nexts-chain = i .marks .nexts-chain; currents-chain = z; distinct = subst (λ (hs : List ℕ). Distinct hs) same (i .marks .listed-distinct) .1; none-added = λ h m. subst (λ (hs : List ℕ). Member h hs) (sym same) (inr m); out-black = λ h m o. dark h o (subst (λ (hs : List ℕ). Member h hs) same m) })
+    (record {
+      links-are = refl;
+      marks-are = refl;
+      live-is = refl;
+      nexts-chain = i .marks .nexts-chain;
+      currents-chain = z;
+      distinct = subst (λ (hs : List ℕ). Distinct hs) same (i .marks .listed-distinct) .1;
+      none-added = λ h m. subst (λ (hs : List ℕ). Member h hs) (sym same) (inr m);
+      out-black = λ h m o. dark h o (subst (λ (hs : List ℕ). Member h hs) same m);
+    })
     (finding refl (unswept-scans g left (f .unswept-yet)) refl refl)
   where
     f : Scanning b g
@@ -204,8 +252,23 @@ takes-current-onward b g i e l n = go (chain-head (b .links) (b .state .current)
           tl,
           c .1,
           relists b g (scan y b) (left tl) i (alike-state b (scan y b .state) refl refl refl refl refl refl refl refl) (omega arith) (omega arith)
-              (record { links-are = refl; marks-are = refl; live-is = refl; nexts-chain = i .marks .nexts-chain; currents-chain = c .2; distinct = perm-distinct (perm-shift y (g .scans .nexts) tl) (subst (λ (hs : List ℕ). Distinct hs) (same tl (c .1)) (i .marks .listed-distinct) .1); none-added = λ h m. subst (λ (hs : List ℕ). Member h hs) (sym (same tl (c .1))) (inr (perm-member (perm-sym (perm-shift y (g .scans .nexts) tl)) h m)); out-black = λ h m o. dark tl h o (subst (λ (hs : List ℕ). Member h hs) (same tl (c .1)) m) })
-              (scanning refl (unswept-scans g (left tl) (f .unswept-yet)) y (record { gray-is = refl; src-is = refl; size-is = refl; index-least = omega arith; index-most = omega arith }) (λ k u t. absurd (omega arith))),
+              (record {
+                links-are = refl;
+                marks-are = refl;
+                live-is = refl;
+                nexts-chain = i .marks .nexts-chain;
+                currents-chain = c .2;
+                distinct = perm-distinct (perm-shift y (g .scans .nexts) tl) (subst (λ (hs : List ℕ). Distinct hs) (same tl (c .1)) (i .marks .listed-distinct) .1);
+                none-added = λ h m. subst (λ (hs : List ℕ). Member h hs) (sym (same tl (c .1))) (inr (perm-member (perm-sym (perm-shift y (g .scans .nexts) tl)) h m));
+                out-black = λ h m o. dark tl h o (subst (λ (hs : List ℕ). Member h hs) (same tl (c .1)) m);
+              })
+              (scanning refl (unswept-scans g (left tl) (f .unswept-yet)) y (record {
+                gray-is = refl;
+                src-is = refl;
+                size-is = refl;
+                index-least = omega arith;
+                index-most = omega arith;
+              }) (λ k u t. absurd (omega arith))),
         )
 
 pub takes-current : (b : Box) (g : Ghosts) → Inv b g → b .state .phase ≡ 2 → b .state .size < b .state .index → b .state .current ≢ 0 → Next b g (scan (b .state .current) b)
@@ -216,7 +279,13 @@ takes-current b g i e l n = let o = takes-current-onward b g i e l n in onward-n
 pub adds-marked-onward : (b : Box) (g : Ghosts) → Inv b g → b .state .phase ≡ 3 → marked (b .state .tuple) b ≡ true → Onward b g (to-phase 2 b) (g .scans)
 adds-marked-onward b g i e t =
     relists b g (to-phase 2 b) (g .scans) i alike (omega arith) (omega arith) (relisted-same b g (to-phase 2 b) i refl refl refl refl refl)
-    (scanning refl (unswept-scans g (g .scans) (f .unswept-yet)) x (record { gray-is = s .gray-is; src-is = s .src-is; size-is = s .size-is; index-least = s .index-least; index-most = s .index-most }) seen)
+    (scanning refl (unswept-scans g (g .scans) (f .unswept-yet)) x (record {
+      gray-is = s .gray-is;
+      src-is = s .src-is;
+      size-is = s .size-is;
+      index-least = s .index-least;
+      index-most = s .index-most;
+    }) seen)
   where
     alike : Alike b (to-phase 2 b)
     alike = alike-state b (to-phase 2 b .state) refl refl refl refl refl refl refl refl

@@ -49,9 +49,60 @@ shaded h b s = go (marked h b) (deep h b) refl refl
 
 shaded-alike : {h : ℕ} {b : Box} {s : Scans} {c : Box} {s′ : Scans} → ShadeCase h b s c s′ → Alike b c
 unfolding list-next mark-live
-shaded-alike (already e) = record { words-are = refl; flags-are = refl; addresses-are = refl; sizes-are = refl; deeps-are = refl; links-length = refl; marks-length = refl; m-is = refl; h-is = refl; registers-are = refl; register-flags-are = refl; top-is = refl; free-is = refl; held-is = refl; hold-is = refl }
-shaded-alike {h} {b} (listing e f) = record { words-are = refl; flags-are = refl; addresses-are = refl; sizes-are = refl; deeps-are = refl; links-length = length-set (b .links) h (b .state .next); marks-length = length-set (b .marks) h true; m-is = refl; h-is = refl; registers-are = refl; register-flags-are = refl; top-is = refl; free-is = refl; held-is = refl; hold-is = refl }
-shaded-alike {h} {b} (counting e f) = record { words-are = refl; flags-are = refl; addresses-are = refl; sizes-are = refl; deeps-are = refl; links-length = refl; marks-length = length-set (b .marks) h true; m-is = refl; h-is = refl; registers-are = refl; register-flags-are = refl; top-is = refl; free-is = refl; held-is = refl; hold-is = refl }
+shaded-alike (already e) =
+    record {
+      words-are = refl;
+      flags-are = refl;
+      addresses-are = refl;
+      sizes-are = refl;
+      deeps-are = refl;
+      links-length = refl;
+      marks-length = refl;
+      m-is = refl;
+      h-is = refl;
+      registers-are = refl;
+      register-flags-are = refl;
+      top-is = refl;
+      free-is = refl;
+      held-is = refl;
+      hold-is = refl;
+    }
+shaded-alike {h} {b} (listing e f) =
+    record {
+      words-are = refl;
+      flags-are = refl;
+      addresses-are = refl;
+      sizes-are = refl;
+      deeps-are = refl;
+      links-length = length-set (b .links) h (b .state .next);
+      marks-length = length-set (b .marks) h true;
+      m-is = refl;
+      h-is = refl;
+      registers-are = refl;
+      register-flags-are = refl;
+      top-is = refl;
+      free-is = refl;
+      held-is = refl;
+      hold-is = refl;
+    }
+shaded-alike {h} {b} (counting e f) =
+    record {
+      words-are = refl;
+      flags-are = refl;
+      addresses-are = refl;
+      sizes-are = refl;
+      deeps-are = refl;
+      links-length = refl;
+      marks-length = length-set (b .marks) h true;
+      m-is = refl;
+      h-is = refl;
+      registers-are = refl;
+      register-flags-are = refl;
+      top-is = refl;
+      free-is = refl;
+      held-is = refl;
+      hold-is = refl;
+    }
 
 -- the collector's numbers, but for live and next
 pub record SameNumbers (b c : Box) : Type 0 where
@@ -211,7 +262,14 @@ shaded-currents (counting e f) = refl
 
 -- what is said of the tuple under the scan, at any phase of the box after it
 scan-numbers : (b : Box) (g : Ghosts) (c : Box) (s : Scans) (x : ℕ) → Alike b c → SameNumbers b c → s .gray ≡ g .scans .gray → Scan b g x → Scan c (with-scans s g) x
-scan-numbers b g c s x a k e i = record { gray-is = e ∙ i .gray-is; src-is = address-alike b c a x ∙ i .src-is ∙ sym (k .src-is); size-is = size-alike b c a x ∙ i .size-is ∙ sym (k .size-is); index-least = rw (k .index-is) (i .index-least); index-most = rw (k .index-is, k .size-is) (i .index-most) }
+scan-numbers b g c s x a k e i =
+    record {
+      gray-is = e ∙ i .gray-is;
+      src-is = address-alike b c a x ∙ i .src-is ∙ sym (k .src-is);
+      size-is = size-alike b c a x ∙ i .size-is ∙ sym (k .size-is);
+      index-least = rw (k .index-is) (i .index-least);
+      index-most = rw (k .index-is, k .size-is) (i .index-most);
+    }
 
 shaded-stage : {h : ℕ} {b : Box} {c : Box} {s′ : Scans} (g : Ghosts) → ShadeCase h b (g .scans) c s′ → h < length (b .marks) → 1 ≤ b .state .phase → b .state .phase ≤ 3 → Stage b g → Stage c (with-scans s′ g)
 shaded-stage {h} {b} {c} {s′} g sh l v w st = go st

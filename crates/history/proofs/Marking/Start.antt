@@ -39,7 +39,16 @@ pub rests : (b : Box) (g : Ghosts) → Inv b g → b .state .phase ≡ 0 → Onw
 rests b g i e =
     let r : Rests b g = rests-of b g (i .stage) e in
     relists b g (rested-box b) none-wait i (alike-state b (rested-box b .state) refl refl refl refl refl refl refl refl) (omega arith) (omega arith)
-    (record { links-are = refl; marks-are = refl; live-is = sym (rest-live b g i r); nexts-chain = refl; currents-chain = refl; distinct = tt; none-added = λ h x. absurd x; out-black = λ h x o. absurd (subst (λ (hs : List ℕ). Member h hs) (listed-none g (r .unlisted)) x) })
+    (record {
+      links-are = refl;
+      marks-are = refl;
+      live-is = sym (rest-live b g i r);
+      nexts-chain = refl;
+      currents-chain = refl;
+      distinct = tt;
+      none-added = λ h x. absurd x;
+      out-black = λ h x o. absurd (subst (λ (hs : List ℕ). Member h hs) (listed-none g (r .unlisted)) x);
+    })
     (finding refl (unswept-scans g none-wait (r .unswept-yet)) refl refl)
 
 -- ---- 1 Mark next
@@ -68,8 +77,23 @@ takes-next-onward b g i e n = go (chain-head (b .links) (b .state .next) (g .sca
           tl,
           c .1,
           relists b g (next-taken b) (from-next (b .state .next) tl) i (alike-state b (next-taken b .state) refl refl refl refl refl refl refl refl) (omega arith) (omega arith)
-              (record { links-are = refl; marks-are = refl; live-is = refl; nexts-chain = refl; currents-chain = c .2; distinct = subst (λ (hs : List ℕ). Distinct hs) same (i .marks .listed-distinct); none-added = λ h x. subst (λ (hs : List ℕ). Member h hs) (sym same) x; out-black = λ h x o. absurd (o (subst (λ (hs : List ℕ). Member h hs) same x)) })
-              (scanning refl (unswept-scans g (from-next (b .state .next) tl) (f .unswept-yet)) (b .state .next) (record { gray-is = refl; src-is = refl; size-is = refl; index-least = omega arith; index-most = omega arith }) (λ k l w. absurd (omega arith))),
+              (record {
+                links-are = refl;
+                marks-are = refl;
+                live-is = refl;
+                nexts-chain = refl;
+                currents-chain = c .2;
+                distinct = subst (λ (hs : List ℕ). Distinct hs) same (i .marks .listed-distinct);
+                none-added = λ h x. subst (λ (hs : List ℕ). Member h hs) (sym same) x;
+                out-black = λ h x o. absurd (o (subst (λ (hs : List ℕ). Member h hs) same x));
+              })
+              (scanning refl (unswept-scans g (from-next (b .state .next) tl) (f .unswept-yet)) (b .state .next) (record {
+                gray-is = refl;
+                src-is = refl;
+                size-is = refl;
+                index-least = omega arith;
+                index-most = omega arith;
+              }) (λ k l w. absurd (omega arith))),
         )
 
 pub takes-next : (b : Box) (g : Ghosts) → Inv b g → b .state .phase ≡ 1 → b .state .next ≢ 0 → Next b g (next-taken b)

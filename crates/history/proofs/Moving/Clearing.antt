@@ -29,10 +29,43 @@ clears-words b g m p i l = go (turn i (b .state .index))
     go (later e) = word-unmoved (b .state .tuple) i (cleared-box b) e ∙ elsewhere b (address (b .state .tuple) b + i) (omega (arith, m .src-is)) ∙ sym (word-unmoved (b .state .tuple) i b e)
 
 clears-within : (b : Box) (g : Ghosts) → Move b g → b .state .phase ≡ 6 → b .state .index ≤ b .state .size → Within b (cleared-box b)
-clears-within b g m p l = record { m-same = refl; h-same = refl; registers-same = refl; register-flags-same = refl; top-same = refl; free-same = refl; live-same = refl; current-same = refl; next-same = refl; src-same = refl; dest-same = refl; tuple-same = refl; size-same = refl; held-same = refl; hold-same = refl; addresses-same = refl; sizes-same = refl; links-same = refl; marks-same = refl; deeps-same = refl; words-length = simp length-set; flags-length = simp length-set; phase-before = omega arith; phase-after = omega arith; words-below = λ a x. elsewhere b a (omega (arith, m .downward)); words-above = λ a x. elsewhere b a (omega arith); words-moved = clears-words b g m p }
+clears-within b g m p l =
+    record {
+      m-same = refl;
+      h-same = refl;
+      registers-same = refl;
+      register-flags-same = refl;
+      top-same = refl;
+      free-same = refl;
+      live-same = refl;
+      current-same = refl;
+      next-same = refl;
+      src-same = refl;
+      dest-same = refl;
+      tuple-same = refl;
+      size-same = refl;
+      held-same = refl;
+      hold-same = refl;
+      addresses-same = refl;
+      sizes-same = refl;
+      links-same = refl;
+      marks-same = refl;
+      deeps-same = refl;
+      words-length = simp length-set;
+      flags-length = simp length-set;
+      phase-before = omega arith;
+      phase-after = omega arith;
+      words-below = λ a x. elsewhere b a (omega (arith, m .downward));
+      words-above = λ a x. elsewhere b a (omega arith);
+      words-moved = clears-words b g m p;
+    }
 
 clears-zero : (b : Box) (z : ℕ) → b .state .src + b .state .index < length (b .words) → b .state .src + b .state .index < length (b .flags) → z ≡ b .state .src + b .state .index → Zero b z → Zero (cleared-box b) (b .state .src + b .state .index + 1)
-clears-zero b z f k e s = record { above-top = λ a u. go a (s .above-top a u) (ℕ-discrete a (b .state .src + b .state .index)); behind = λ a u x. last a u x (ℕ-discrete a (b .state .src + b .state .index)) }
+clears-zero b z f k e s =
+    record {
+      above-top = λ a u. go a (s .above-top a u) (ℕ-discrete a (b .state .src + b .state .index));
+      behind = λ a u x. last a u x (ℕ-discrete a (b .state .src + b .state .index));
+    }
   where
     here : (a : ℕ) → a ≡ b .state .src + b .state .index → word-at a (cleared-box b) ≡ data-word 0
     here a q = subst (λ (n : ℕ). word-at n (cleared-box b) ≡ data-word 0) (sym q) (put-same (b .state .src + b .state .index) (data-word 0) b f k)

@@ -22,7 +22,36 @@ copies-words p b g m q l u i = go (turn i (b .state .index))
     go (later e) = word-unmoved (b .state .tuple) i (copied-box p b) e ∙ sym (word-unmoved (b .state .tuple) i b e)
 
 copies-within : (p : ℕ) (b : Box) (g : Ghosts) → Move b g → b .state .phase ≡ 5 → 6 ≤ p → p ≤ 7 → Within b (copied-box p b)
-copies-within p b g m q l u = record { m-same = refl; h-same = refl; registers-same = refl; register-flags-same = refl; top-same = refl; free-same = refl; live-same = refl; current-same = refl; next-same = refl; src-same = refl; dest-same = refl; tuple-same = refl; size-same = refl; held-same = refl; hold-same = refl; addresses-same = refl; sizes-same = refl; links-same = refl; marks-same = refl; deeps-same = refl; words-length = refl; flags-length = refl; phase-before = omega arith; phase-after = omega arith; words-below = λ a x. refl; words-above = λ a x. refl; words-moved = λ i x. copies-words p b g m q l u i }
+copies-within p b g m q l u =
+    record {
+      m-same = refl;
+      h-same = refl;
+      registers-same = refl;
+      register-flags-same = refl;
+      top-same = refl;
+      free-same = refl;
+      live-same = refl;
+      current-same = refl;
+      next-same = refl;
+      src-same = refl;
+      dest-same = refl;
+      tuple-same = refl;
+      size-same = refl;
+      held-same = refl;
+      hold-same = refl;
+      addresses-same = refl;
+      sizes-same = refl;
+      links-same = refl;
+      marks-same = refl;
+      deeps-same = refl;
+      words-length = refl;
+      flags-length = refl;
+      phase-before = omega arith;
+      phase-after = omega arith;
+      words-below = λ a x. refl;
+      words-above = λ a x. refl;
+      words-moved = λ i x. copies-words p b g m q l u i;
+    }
 
 -- zero words stay; where src + index is below live, the bound may pass it
 copies-zero : (p : ℕ) (b : Box) (z y : ℕ) → ((a : ℕ) → b .state .live ≤ a → a < y → a < z) → Zero b z → Zero (copied-box p b) y

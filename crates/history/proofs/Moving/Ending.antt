@@ -27,11 +27,47 @@ record Ends (b c : Box) : Type 0 where
   current-same : c .state .current ≡ b .state .current
 
 ends : (b : Box) → Ends b (moved-last-box b)
-ends b = record { settles = record { m-same = refl; h-same = refl; registers-same = refl; register-flags-same = refl; held-same = refl; hold-same = refl; addresses-set = refl; sizes-same = refl; links-same = refl; marks-same = refl; deeps-same = refl; words-same = refl; flags-same = refl }; top-is = refl; free-same = refl; next-same = refl; current-same = refl }
+ends b =
+    record {
+      settles = record {
+        m-same = refl;
+        h-same = refl;
+        registers-same = refl;
+        register-flags-same = refl;
+        held-same = refl;
+        hold-same = refl;
+        addresses-set = refl;
+        sizes-same = refl;
+        links-same = refl;
+        marks-same = refl;
+        deeps-same = refl;
+        words-same = refl;
+        flags-same = refl;
+      };
+      top-is = refl;
+      free-same = refl;
+      next-same = refl;
+      current-same = refl;
+    }
 
 rest-settles : (b c : Box) → Settles b c → Settles b (at-rest c)
 unfolding at-rest
-rest-settles b c w = record { m-same = w .m-same; h-same = w .h-same; registers-same = w .registers-same; register-flags-same = w .register-flags-same; held-same = w .held-same; hold-same = w .hold-same; addresses-set = w .addresses-set; sizes-same = w .sizes-same; links-same = w .links-same; marks-same = w .marks-same; deeps-same = w .deeps-same; words-same = w .words-same; flags-same = w .flags-same }
+rest-settles b c w =
+    record {
+      m-same = w .m-same;
+      h-same = w .h-same;
+      registers-same = w .registers-same;
+      register-flags-same = w .register-flags-same;
+      held-same = w .held-same;
+      hold-same = w .hold-same;
+      addresses-set = w .addresses-set;
+      sizes-same = w .sizes-same;
+      links-same = w .links-same;
+      marks-same = w .marks-same;
+      deeps-same = w .deeps-same;
+      words-same = w .words-same;
+      flags-same = w .flags-same;
+    }
 
 rest-phase : (c : Box) → at-rest c .state .phase ≡ 0
 unfolding at-rest
@@ -115,9 +151,17 @@ pub ends-calm : (b : Box) (g : Ghosts) → Inv b g → b .state .phase ≡ 5 →
     → Calm b (g .plan) (at-rest (moved-last-box b)) (resting-plan (g .plan .done ++ (b .state .tuple ∷ [])))
 ends-calm b g v p l e =
     let m : Move b g = at-read b g (v .stage) p .move in
-    quiet-calm b (g .plan) (at-rest (moved-last-box b)) (resting-plan (settled-now b g)) (ends-quiet b (at-rest (moved-last-box b)) g v (record { move = m; in-phase = p; all-written = l }) (rest-settles b (moved-last-box b) (ends b .settles)) (rest-phase (moved-last-box b)) (no-ahead b g v m e))
+    quiet-calm b (g .plan) (at-rest (moved-last-box b)) (resting-plan (settled-now b g)) (ends-quiet b (at-rest (moved-last-box b)) g v (record {
+      move = m;
+      in-phase = p;
+      all-written = l;
+    }) (rest-settles b (moved-last-box b) (ends b .settles)) (rest-phase (moved-last-box b)) (no-ahead b g v m e))
 
 pub ends-move : (b : Box) (g : Ghosts) → Inv b g → b .state .phase ≡ 5 → b .state .size < b .state .index → b .state .src + b .state .size + 1 ≡ b .state .top
     → Next b g (at-rest (moved-last-box b))
 ends-move b g v p l e =
-    record { ghosts = resting (settled-now b g) (g .free); inv = finished (moved-last-box b) (settled-now b g) (g .free) (ends-finished b g v p l e); calm = ends-calm b g v p l e }
+    record {
+      ghosts = resting (settled-now b g) (g .free);
+      inv = finished (moved-last-box b) (settled-now b g) (g .free) (ends-finished b g v p l e);
+      calm = ends-calm b g v p l e;
+    }

@@ -36,7 +36,33 @@ record Leaves (b c : Box) : Type 0 where
   tuple-is : c .state .tuple ≡ handle-of (word-at (b .state .src + b .state .size + 1) c)
 
 leaves : (b : Box) → Leaves b (moved-box b)
-leaves b = record { settles = record { m-same = refl; h-same = refl; registers-same = refl; register-flags-same = refl; held-same = refl; hold-same = refl; addresses-set = refl; sizes-same = refl; links-same = refl; marks-same = refl; deeps-same = refl; words-same = refl; flags-same = refl }; top-same = refl; free-same = refl; live-same = refl; next-same = refl; current-same = refl; phase-is = refl; src-is = refl; dest-is = refl; tuple-is = refl }
+leaves b =
+    record {
+      settles = record {
+        m-same = refl;
+        h-same = refl;
+        registers-same = refl;
+        register-flags-same = refl;
+        held-same = refl;
+        hold-same = refl;
+        addresses-set = refl;
+        sizes-same = refl;
+        links-same = refl;
+        marks-same = refl;
+        deeps-same = refl;
+        words-same = refl;
+        flags-same = refl;
+      };
+      top-same = refl;
+      free-same = refl;
+      live-same = refl;
+      next-same = refl;
+      current-same = refl;
+      phase-is = refl;
+      src-is = refl;
+      dest-is = refl;
+      tuple-is = refl;
+    }
 
 leaves-quiet : (b c : Box) (g : Ghosts) → Inv b g → Written b g → Leaves b c → Quiet b (g .plan) c (left-plan b g)
 leaves-quiet b c g v t w =
@@ -73,7 +99,11 @@ leaves-layout b c g v t w =
     }
 
 leaves-zero : (b c : Box) (g : Ghosts) → Inv b g → Leaves b c → Zero c (g .zeroed)
-leaves-zero b c g v w = record { above-top = λ a u. word-same b c (w .settles) a ∙ v .zero-words .above-top a (rw (w .top-same) at u); behind = λ a u x. word-same b c (w .settles) a ∙ v .zero-words .behind a (rw (w .live-same) at u) x }
+leaves-zero b c g v w =
+    record {
+      above-top = λ a u. word-same b c (w .settles) a ∙ v .zero-words .above-top a (rw (w .top-same) at u);
+      behind = λ a u x. word-same b c (w .settles) a ∙ v .zero-words .behind a (rw (w .live-same) at u) x;
+    }
 
 leaves-marks : (b c : Box) (g : Ghosts) → Inv b g → Written b g → Leaves b c → Marks c (left-plan b g) (g .free) (g .scans)
 unfolding rooms

@@ -44,7 +44,20 @@ abbrev pub settled-now : Box → Ghosts → List ℕ
 settled-now b g = g .plan .done ++ (b .state .tuple ∷ [])
 
 pub settles-shape : (b c : Box) → Settles b c → Shape b → Shape c
-settles-shape b c w s = shape-same b c (record { m-same = w .m-same; h-same = w .h-same; words-same = ap length (w .words-same); flags-same = ap length (w .flags-same); addresses-same = ap length (w .addresses-set) ∙ length-set (b .addresses) (b .state .tuple) (b .state .dest); sizes-same = ap length (w .sizes-same); links-same = ap length (w .links-same); marks-same = ap length (w .marks-same); deeps-same = ap length (w .deeps-same); registers-same = ap length (w .registers-same); register-flags-same = ap length (w .register-flags-same); held-same = λ e. (sym (w .held-same) ∙ e, w .hold-same) }) s
+settles-shape b c w s = shape-same b c (record {
+  m-same = w .m-same;
+  h-same = w .h-same;
+  words-same = ap length (w .words-same);
+  flags-same = ap length (w .flags-same);
+  addresses-same = ap length (w .addresses-set) ∙ length-set (b .addresses) (b .state .tuple) (b .state .dest);
+  sizes-same = ap length (w .sizes-same);
+  links-same = ap length (w .links-same);
+  marks-same = ap length (w .marks-same);
+  deeps-same = ap length (w .deeps-same);
+  registers-same = ap length (w .registers-same);
+  register-flags-same = ap length (w .register-flags-same);
+  held-same = λ e. (sym (w .held-same) ∙ e, w .hold-same);
+}) s
 
 pub size-same : (b c : Box) → Settles b c → (h : ℕ) → size-of h c ≡ size-of h b
 size-same b c w h = ap (λ (s : List ℕ). getD s h 0) (w .sizes-same)

@@ -51,7 +51,21 @@ abbrev pub zeroed-to : ℕ → Ghosts → Ghosts
 zeroed-to z g = record { plan = g .plan; free = g .free; scans = g .scans; zeroed = z }
 
 same-shape : (b c : Box) → Within b c → SameShape b c
-same-shape b c w = record { m-same = w .m-same; h-same = w .h-same; words-same = w .words-length; flags-same = w .flags-length; addresses-same = ap length (w .addresses-same); sizes-same = ap length (w .sizes-same); links-same = ap length (w .links-same); marks-same = ap length (w .marks-same); deeps-same = ap length (w .deeps-same); registers-same = ap length (w .registers-same); register-flags-same = ap length (w .register-flags-same); held-same = λ e. (sym (w .held-same) ∙ e, w .hold-same) }
+same-shape b c w =
+    record {
+      m-same = w .m-same;
+      h-same = w .h-same;
+      words-same = w .words-length;
+      flags-same = w .flags-length;
+      addresses-same = ap length (w .addresses-same);
+      sizes-same = ap length (w .sizes-same);
+      links-same = ap length (w .links-same);
+      marks-same = ap length (w .marks-same);
+      deeps-same = ap length (w .deeps-same);
+      registers-same = ap length (w .registers-same);
+      register-flags-same = ap length (w .register-flags-same);
+      held-same = λ e. (sym (w .held-same) ∙ e, w .hold-same);
+    }
 
 address-same : (b c : Box) → Within b c → (h : ℕ) → address h c ≡ address h b
 address-same b c w h = ap (λ (s : List ℕ). getD s h 0) (w .addresses-same)

@@ -34,7 +34,36 @@ writes-words b g m p w i = go (turn i (b .state .index))
 
 writes-within : (b : Box) (g : Ghosts) → Move b g → b .state .phase ≡ 7 → b .state .index ≤ b .state .size → word-at (b .state .dest + b .state .index) (write-copy b) ≡ copy-register b → Within b (write-copy b)
 unfolding write-copy
-writes-within b g m p l w = record { m-same = refl; h-same = refl; registers-same = refl; register-flags-same = refl; top-same = refl; free-same = refl; live-same = refl; current-same = refl; next-same = refl; src-same = refl; dest-same = refl; tuple-same = refl; size-same = refl; held-same = refl; hold-same = refl; addresses-same = refl; sizes-same = refl; links-same = refl; marks-same = refl; deeps-same = refl; words-length = simp length-set; flags-length = simp length-set; phase-before = omega arith; phase-after = omega arith; words-below = λ a x. elsewhere b a (omega arith); words-above = λ a x. elsewhere b a (omega (arith, m .downward)); words-moved = λ i x. writes-words b g m p w i }
+writes-within b g m p l w =
+    record {
+      m-same = refl;
+      h-same = refl;
+      registers-same = refl;
+      register-flags-same = refl;
+      top-same = refl;
+      free-same = refl;
+      live-same = refl;
+      current-same = refl;
+      next-same = refl;
+      src-same = refl;
+      dest-same = refl;
+      tuple-same = refl;
+      size-same = refl;
+      held-same = refl;
+      hold-same = refl;
+      addresses-same = refl;
+      sizes-same = refl;
+      links-same = refl;
+      marks-same = refl;
+      deeps-same = refl;
+      words-length = simp length-set;
+      flags-length = simp length-set;
+      phase-before = omega arith;
+      phase-after = omega arith;
+      words-below = λ a x. elsewhere b a (omega arith);
+      words-above = λ a x. elsewhere b a (omega (arith, m .downward));
+      words-moved = λ i x. writes-words b g m p w i;
+    }
 
 writes-zero : (b : Box) (z : ℕ) → b .state .dest + b .state .index < b .state .live → b .state .dest + b .state .index < b .state .top → Zero b z → Zero (write-copy b) z
 unfolding write-copy

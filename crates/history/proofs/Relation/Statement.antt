@@ -89,7 +89,11 @@ module _ (b : Box) (p : Plan) (m : History) (given : List ℕ) (number : ℕ →
       let h : Holds b m given number (x .handle) = s .kept-hold (x .handle) (x .kept) in
       subst (λ (y : ℕ). Under b m given n y) (sym (handle-is n x))
       (subst (λ (y : ℕ). Under b m given y (x .handle)) (x .numbered)
-      (record { size-agrees = h .size-same; tag-agrees = h .tag-same; words-agree = λ k l. let u : k < size-of (x .handle) b = subst (λ (z : ℕ). k < z) (sym (h .size-same)) l in matched (word (x .handle) (k + 1) b) (word-of (number (x .handle)) k m) (λ y. i .words-kept (x .handle) (x .kept) k u y .0) (h .words-match k u) }))
+      (record {
+        size-agrees = h .size-same;
+        tag-agrees = h .tag-same;
+        words-agree = λ k l. let u : k < size-of (x .handle) b = subst (λ (z : ℕ). k < z) (sym (h .size-same)) l in matched (word (x .handle) (k + 1) b) (word-of (number (x .handle)) k m) (λ y. i .words-kept (x .handle) (x .kept) k u y .0) (h .words-match k u);
+      }))
 
   no-nil : (n : ℕ) → Keeps b p number n → handle-at n given ≢ 0
   no-nil n x e =
@@ -98,4 +102,10 @@ module _ (b : Box) (p : Plan) (m : History) (given : List ℕ) (number : ℕ →
       omega arith
 
   pub agree : Agree b m given
-  agree = record { registers-agree = λ r l. matched (register r b) (register-of r m) (i .roots-kept r l) (s .roots-match r l); tuples-agree = λ n x. under n (reached n x); no-handle-nil = λ n x e. no-nil n (reached n x) e; no-handle-shared = λ n k x y e. sym (reached n x .numbered) ∙ ap number (sym (handle-is n (reached n x)) ∙ e ∙ handle-is k (reached k y)) ∙ reached k y .numbered }
+  agree =
+      record {
+        registers-agree = λ r l. matched (register r b) (register-of r m) (i .roots-kept r l) (s .roots-match r l);
+        tuples-agree = λ n x. under n (reached n x);
+        no-handle-nil = λ n x e. no-nil n (reached n x) e;
+        no-handle-shared = λ n k x y e. sym (reached n x .numbered) ∙ ap number (sym (handle-is n (reached n x)) ∙ e ∙ handle-is k (reached k y)) ∙ reached k y .numbered;
+      }

@@ -21,13 +21,26 @@ use Rattle.history.proofs.Relation.Statement.{Match, Holds, Related}
 
 pub related-calm : (b c : Box) (p q : Plan) (m : History) (given : List ℕ) (number : ℕ → ℕ) → Calm b p c q → c .state .h ≡ b .state .h → Related b p m given number → Related c q m given number
 related-calm b c p q m given number s e i =
-    record { roots-match = λ r l. subst (λ (w : Word). Match number w (register-of r m)) (sym (s .roots-same r)) (i .roots-match r l); kept-hold = held; nil-number = i .nil-number; all-given = i .all-given; given-entry = λ n l u. (i .given-entry n l u .0, rw e (i .given-entry n l u .1)); number-latest = i .number-latest }
+    record {
+      roots-match = λ r l. subst (λ (w : Word). Match number w (register-of r m)) (sym (s .roots-same r)) (i .roots-match r l);
+      kept-hold = held;
+      nil-number = i .nil-number;
+      all-given = i .all-given;
+      given-entry = λ n l u. (i .given-entry n l u .0, rw e (i .given-entry n l u .1));
+      number-latest = i .number-latest;
+    }
   where
     held : (h : ℕ) → Kept c q h → Holds c m given number h
     held h k =
         let y : Holds b m given number h = i .kept-hold h (s .kept-to h k) in
         let z : size-of h c ≡ size-of h b = s .sizes-same h k in
-        record { number-made = y .number-made; handle-given = y .handle-given; size-same = z ∙ y .size-same; tag-same = ap tag-of (s .words-same h k 0 zero-le) ∙ y .tag-same; words-match = λ n l. let u : n < size-of h b = subst (λ (x : ℕ). n < x) z l in let v : n + 1 ≤ size-of h b = omega arith in subst (λ (w : Word). Match number w (word-of (number h) n m)) (sym (s .words-same h k (n + 1) v)) (y .words-match n u) }
+        record {
+          number-made = y .number-made;
+          handle-given = y .handle-given;
+          size-same = z ∙ y .size-same;
+          tag-same = ap tag-of (s .words-same h k 0 zero-le) ∙ y .tag-same;
+          words-match = λ n l. let u : n < size-of h b = subst (λ (x : ℕ). n < x) z l in let v : n + 1 ≤ size-of h b = omega arith in subst (λ (w : Word). Match number w (word-of (number h) n m)) (sym (s .words-same h k (n + 1) v)) (y .words-match n u);
+        }
 
 -- ---- a register
 
@@ -74,4 +87,10 @@ related-put r w v b p m given number lr lf lm l e i =
     held : (h : ℕ) → Kept (put-register r w b) p h → Holds (put-register r w b) (put-in r v m) given number h
     held h k =
         let y : Holds b m given number h = i .kept-hold h (kept-put r w b p h k) in
-        record { number-made = y .number-made; handle-given = y .handle-given; size-same = y .size-same; tag-same = ap tag-of (word-put r w h 0 b) ∙ y .tag-same; words-match = λ n u. subst (λ (x : Word). Match number x (word-of (number h) n m)) (sym (word-put r w h (n + 1) b)) (y .words-match n u) }
+        record {
+          number-made = y .number-made;
+          handle-given = y .handle-given;
+          size-same = y .size-same;
+          tag-same = ap tag-of (word-put r w h 0 b) ∙ y .tag-same;
+          words-match = λ n u. subst (λ (x : Word). Match number x (word-of (number h) n m)) (sym (word-put r w h (n + 1) b)) (y .words-match n u);
+        }

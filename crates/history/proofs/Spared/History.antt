@@ -67,7 +67,10 @@ module _ (m started : History) (s : SparedIn m started) where
           let q : tuple-of i (make r n tag m) ≡ tuple-of i m = tuple-old r n tag m i u in
           s .words-spared i k j o x (subst (λ (t : HTuple). k < length (t .words)) q l) (ap (λ (t : HTuple). getD (t .words) k (datum 0)) (sym q) ∙ e) z
       go (no u) (yes d) =
-          let q : tuple-of i (make r n tag m) ≡ record { tag = tag; words = replicate n (datum 0) } = ap (λ (y : ℕ). tuple-of y (make r n tag m)) d ∙ tuple-new r n tag m in
+          let q : tuple-of i (make r n tag m) ≡ record {
+            tag = tag;
+            words = replicate n (datum 0);
+          } = ap (λ (y : ℕ). tuple-of y (make r n tag m)) d ∙ tuple-new r n tag m in
           let v : k < length (replicate n (datum 0)) = subst (λ (t : HTuple). k < length (t .words)) q l in
           let w : k < n = subst (λ (y : ℕ). k < y) (length-replicate n (datum 0)) v in
           let f : datum 0 ≡ pointer-to j o = sym (getD-replicate n k (datum 0) (datum 0) w) ∙ ap (λ (t : HTuple). getD (t .words) k (datum 0)) (sym q) ∙ e in
@@ -80,7 +83,11 @@ module _ (m started : History) (s : SparedIn m started) where
   pub spared-make : (r n tag : ℕ) → SparedIn (make r n tag m) started
   unfolding make
   spared-make r n tag =
-      record { not-fewer = let q : made (make r n tag m) ≡ suc (made m) = made-make r n tag m in let u : made started ≤ made m = s .not-fewer in omega arith; roots-spared = spared-put r (pointer-to (suc (made m)) 0) new-spared .roots-spared; words-spared = made-inside r n tag }
+      record {
+        not-fewer = let q : made (make r n tag m) ≡ suc (made m) = made-make r n tag m in let u : made started ≤ made m = s .not-fewer in omega arith;
+        roots-spared = spared-put r (pointer-to (suc (made m)) 0) new-spared .roots-spared;
+        words-spared = made-inside r n tag;
+      }
 
   -- a word of a tuple takes such a word
   pub spared-stored : (i k : ℕ) (v : HWord) → SparedWord started v → SparedIn (stored-in i k v m) started

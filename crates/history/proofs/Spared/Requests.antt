@@ -33,7 +33,14 @@ pub record Unmarking (b : Box) (p : Plan) (c : Box) (number : ℕ → ℕ) (star
 
 pub tracked-asked : (b : Box) (p : Plan) (c : Box) (m n : History) (number : ℕ → ℕ) (started : History) → Unmarking b p c number started → SparedIn n started → Tracked b p m number started → Tracked c p n number started
 tracked-asked b p c m n number started u s t =
-    record { not-fewer = s .not-fewer; roots-spared = s .roots-spared; words-spared = s .words-spared; marked-spared = λ l h x k. go h l x (u .marked-from h k); adding-spared = λ e. subst (λ (y : ℕ). Spared started (number y)) (sym (u .tuple-same)) (t .adding-spared (sym (u .phase-same) ∙ e)); kept-spared = λ l h k. t .kept-spared (subst (λ (y : ℕ). 4 ≤ y) (u .phase-same) l) h (u .kept-to h k) }
+    record {
+      not-fewer = s .not-fewer;
+      roots-spared = s .roots-spared;
+      words-spared = s .words-spared;
+      marked-spared = λ l h x k. go h l x (u .marked-from h k);
+      adding-spared = λ e. subst (λ (y : ℕ). Spared started (number y)) (sym (u .tuple-same)) (t .adding-spared (sym (u .phase-same) ∙ e));
+      kept-spared = λ l h k. t .kept-spared (subst (λ (y : ℕ). 4 ≤ y) (u .phase-same) l) h (u .kept-to h k);
+    }
   where
     go : (h : ℕ) → c .state .phase ≤ 3 → Member h (p .ahead) → (marked h b ≡ true) ⊎ Spared started (number h) → Spared started (number h)
     go h l x (inl k) = t .marked-spared (subst (λ (y : ℕ). y ≤ 3) (u .phase-same) l) h x k
@@ -64,7 +71,14 @@ module _ (b : Box) (g : Ghosts) (v : Inv b g) (r n tag : ℕ) (lr : r < register
   pub tracked-made : Tracked box (made-plan (g .plan) (b .state .free)) (make r n tag m) numbers started
   tracked-made =
       let s : SparedIn (make r n tag m) started = spared-make m started (tracked-in b (g .plan) m number started t) r n tag in
-      record { not-fewer = s .not-fewer; roots-spared = s .roots-spared; words-spared = s .words-spared; marked-spared = marks; adding-spared = adding; kept-spared = keeps }
+      record {
+        not-fewer = s .not-fewer;
+        roots-spared = s .roots-spared;
+        words-spared = s .words-spared;
+        marked-spared = marks;
+        adding-spared = adding;
+        kept-spared = keeps;
+      }
     where
       marks : box .state .phase ≤ 3 → (h : ℕ) → Member h (made-plan (g .plan) (b .state .free) .ahead) → marked h box ≡ true → Spared started (numbers h)
       marks l h x k = spared-new h (λ e. t .marked-spared (subst (λ (y : ℕ). y ≤ 3) (what .phase-same) l) h (old e (member-cases h (g .plan .ahead) (b .state .free ∷ []) x)) (sym (what .mark-other h e) ∙ k))

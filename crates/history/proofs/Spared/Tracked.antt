@@ -11,7 +11,7 @@ use native.Mathlib.Omega.{arith}
 use lib.ListN.{length, List·getD-eq-default}
 use Rattle.memory.specs.Limits.{register-count}
 use Rattle.memory.specs.Box.{Box, Word, handle-of, names-tuple, register, size-of, link, marked}
-use Rattle.history.specs.Machine.{HWord, datum, pointer-to, History, register-of, nil-tuple, size-at, word-of, made}
+use Rattle.history.specs.Machine.{HTuple, HWord, datum, pointer-to, History, register-of, nil-tuple, size-at, word-of, made}
 use Rattle.history.specs.Agreement.{Reachable, by-register, by-word, handle-at, Listed, here, later, Gone, in-free-list, given-later, Member}
 use Rattle.history.proofs.Invariant.Statement.{Plan, Ghosts, Inv, word, Chain, Kept, settled, moving, unswept, Contents}
 use Rattle.history.proofs.Lists.Handles.{Among, among, among-done, among-mid, among-ahead, among-free, among-member}
@@ -36,12 +36,19 @@ pub record Tracked (b : Box) (p : Plan) (m : History) (number : ℕ → ℕ) (st
 
 -- a number that no tuple has is empty
 pub size-beyond : (i : ℕ) (m : History) → made m < i → size-at i m ≡ 0
-size-beyond i m l = ap (λ (t : Rattle.history.specs.Machine.HTuple). length (t .words)) (List·getD-eq-default (nil-tuple ∷ m .tuples) nil-tuple {n = i} (omega arith))
+size-beyond i m l = ap (λ (t : HTuple). length (t .words)) (List·getD-eq-default (nil-tuple ∷ m .tuples) nil-tuple {n = i} (omega arith))
 
 -- b is the box after its Rest step: phase 1, and nothing marked
 pub tracked-start : (b : Box) (p : Plan) (m : History) (number : ℕ → ℕ) → b .state .phase ≡ 1 → ((h : ℕ) → Member h (p .ahead) → marked h b ≡ false) → Tracked b p m number m
 tracked-start b p m number e f =
-    record { not-fewer = omega arith; roots-spared = λ r i o l q z. reachable-then (by-register r i o l q z); words-spared = inside; marked-spared = λ l h x t. absurd (false≢true (sym (f h x) ∙ t)); adding-spared = λ q. absurd (omega arith); kept-spared = λ l. absurd (omega arith) }
+    record {
+      not-fewer = omega arith;
+      roots-spared = λ r i o l q z. reachable-then (by-register r i o l q z);
+      words-spared = inside;
+      marked-spared = λ l h x t. absurd (false≢true (sym (f h x) ∙ t));
+      adding-spared = λ q. absurd (omega arith);
+      kept-spared = λ l. absurd (omega arith);
+    }
   where
     inside : (i k j o : ℕ) → Spared m i → k < size-at i m → word-of i k m ≡ pointer-to j o → j ≢ 0 → Spared m j
     inside i k j o (reachable-then x) l q z = reachable-then (by-word i k j o x l q z)
@@ -56,7 +63,15 @@ pub tracked-on : (b c : Box) (p q : Plan) (m : History) (number : ℕ → ℕ) (
     → (c .state .phase ≡ 3 → Spared started (number (c .state .tuple)))
     → (4 ≤ c .state .phase → (h : ℕ) → Kept c q h → Spared started (number h))
     → Tracked c q m number started
-tracked-on b c p q m number started i x y z = record { not-fewer = i .not-fewer; roots-spared = i .roots-spared; words-spared = i .words-spared; marked-spared = x; adding-spared = y; kept-spared = z }
+tracked-on b c p q m number started i x y z =
+    record {
+      not-fewer = i .not-fewer;
+      roots-spared = i .roots-spared;
+      words-spared = i .words-spared;
+      marked-spared = x;
+      adding-spared = y;
+      kept-spared = z;
+    }
 
 pub match-points : (number : ℕ → ℕ) (w : Word) (v : HWord) → w .flag ≡ true → Match number w v → (o : ℕ) × (v ≡ pointer-to (number (handle-of w)) o)
 match-points number w (datum v) f e = absurd (false≢true (sym (e .0) ∙ f))

@@ -70,7 +70,15 @@ pub zeroed-view : (b : Box) (g : Ghosts) → Inv b g → b .state .phase ≡ 8 �
 zeroed-view b g v p =
     let s : Zeroes b g = zeroes-of b g (v .stage) p in
     let e : g ≡ zero-ghosts b (g .plan .done) (g .plan .ahead) (g .free) = ghosts-are g (b .state .dest) (b .state .src + b .state .size + 1) (b .state .src + b .state .index) (g .plan .ahead) (s .unlisted) (s .no-mid) (s .low-is) (s .base-is) (s .zeroed-is) refl in
-    record { settled-tuples = g .plan .done; behind-it = g .plan .ahead; free-handles = g .free; are = e; inv = subst (λ (x : Ghosts). Inv b x) e v; dest-src = s .dest-src; index-most = s .index-most }
+    record {
+      settled-tuples = g .plan .done;
+      behind-it = g .plan .ahead;
+      free-handles = g .free;
+      are = e;
+      inv = subst (λ (x : Ghosts). Inv b x) e v;
+      dest-src = s .dest-src;
+      index-most = s .index-most;
+    }
 
 -- what is shown at the ghosts in full form holds at the ghosts
 pub next-at : (b : Box) (g g′ : Ghosts) (c : Box) → g ≡ g′ → Next b g′ c → Next b g c
@@ -110,7 +118,20 @@ live-swept b low base ds hs free m = omega (arith, m .live-is, rooms-none b)
 pub swept-marks : (c : Box) (q : Plan) (free : List ℕ) → 4 ≤ c .state .phase
     → ((h : ℕ) → Member h free → marked h c ≡ false) → ((h : ℕ) → Member h (q .done) → marked h c ≡ false) → ((h : ℕ) → Member h (q .mid) → marked h c ≡ false)
     → c .state .live ≡ q .low + (rooms c (q .mid) + marked-rooms c (q .ahead)) → c .state .next ≡ 0 → c .state .current ≡ 0 → Marks c q free no-scans
-swept-marks c q free l f d m e n k = record { free-unmarked = f; done-unmarked = d; mid-unmarked = m; live-is = e; nexts-chain = n; currents-chain = k; listed-distinct = tt; listed-ahead = λ h x. absurd x; listed-marked = λ h x. absurd x; listed-deep = λ h x. absurd x; black = λ u. absurd (omega arith) }
+swept-marks c q free l f d m e n k =
+    record {
+      free-unmarked = f;
+      done-unmarked = d;
+      mid-unmarked = m;
+      live-is = e;
+      nexts-chain = n;
+      currents-chain = k;
+      listed-distinct = tt;
+      listed-ahead = λ h x. absurd x;
+      listed-marked = λ h x. absurd x;
+      listed-deep = λ h x. absurd x;
+      black = λ u. absurd (omega arith);
+    }
 
 -- a kept tuple, with none being moved: it is settled, or lies ahead and is marked
 pub kept-swept : (b : Box) (low base : ℕ) (ds hs : List ℕ) → 4 ≤ b .state .phase → (h : ℕ) → Kept b (sweep-plan low base ds hs) h → Member h ds ⊎ (Member h hs × (marked h b ≡ true))
@@ -126,7 +147,15 @@ Plain b = (h i : ℕ) → word h i b ≡ word-at (address h b + i) b
 -- a transition that leaves addresses, sizes, memory and registers alone
 pub plain-quiet : (b : Box) (p : Plan) (c : Box) (q : Plan) → Plain b → Plain c → ((h : ℕ) → address h c ≡ address h b) → ((h : ℕ) → size-of h c ≡ size-of h b) → ((a : ℕ) → word-at a c ≡ word-at a b) → ((h : ℕ) → deep h c ≡ deep h b)
     → ((r : ℕ) → register r c ≡ register r b) → ((h : ℕ) → Kept c q h → Kept b p h) → ((h : ℕ) → Kept b p h → Kept c q h) → Quiet b p c q
-plain-quiet b p c q pb pc ad sz wd dp rg to from = record { kept-to = to; kept-from = from; roots-same = rg; sizes-same = λ h k. sz h; words-same = λ h k i l. pc h i ∙ ap (λ (a : ℕ). word-at (a + i) c) (ad h) ∙ wd (address h b + i) ∙ sym (pb h i); deeps-same = λ h k. dp h }
+plain-quiet b p c q pb pc ad sz wd dp rg to from =
+    record {
+      kept-to = to;
+      kept-from = from;
+      roots-same = rg;
+      sizes-same = λ h k. sz h;
+      words-same = λ h k i l. pc h i ∙ ap (λ (a : ℕ). word-at (a + i) c) (ad h) ∙ wd (address h b + i) ∙ sym (pb h i);
+      deeps-same = λ h k. dp h;
+    }
 
 -- the tuple behind, named by the word at its beginning
 pub next-tuple : (b : Box) (a : ℕ) (hs : List ℕ) (e : ℕ) → Laid b a hs e → a ≢ e → (ks : List ℕ) × (hs ≡ handle-of (word-at a b) ∷ ks)

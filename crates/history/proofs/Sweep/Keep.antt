@@ -28,14 +28,34 @@ kept-plan b ds hs = sweep-plan (swept-after b) (swept-after b) (ds ++ (b .state 
 
 module _ (b : Box) (ds hs free : List ℕ) (v : Inv b (scan-ghosts b ds hs free)) (ph : b .state .phase ≡ 4) (mk : marked (b .state .tuple) b ≡ true) (at-dest : b .state .src ≡ b .state .dest) where
   keep-shape : SameShape b (kept-box b)
-  keep-shape = record { m-same = refl; h-same = refl; words-same = refl; flags-same = refl; addresses-same = refl; sizes-same = refl; links-same = refl; marks-same = length-set (b .marks) (b .state .tuple) false; deeps-same = refl; registers-same = refl; register-flags-same = refl; held-same = λ e. (e, refl) }
+  keep-shape =
+      record {
+        m-same = refl;
+        h-same = refl;
+        words-same = refl;
+        flags-same = refl;
+        addresses-same = refl;
+        sizes-same = refl;
+        links-same = refl;
+        marks-same = length-set (b .marks) (b .state .tuple) false;
+        deeps-same = refl;
+        registers-same = refl;
+        register-flags-same = refl;
+        held-same = λ e. (e, refl);
+      }
 
   keep-settled-laid : Laid b 0 (ds ++ (b .state .tuple ∷ [])) (swept-after b)
   keep-settled-laid =
       laid-snoc b 0 ds (b .state .src) (b .state .tuple) (laid-to b 0 ds (b .state .dest) (b .state .src) (sym at-dest) (v .layout .done-laid)) (at-src b ds hs free v) (control-at-src b ds hs free v)
 
   keep-layout : Layout (kept-box b) (kept-plan b ds hs)
-  keep-layout = record { done-laid = laid-frame b (kept-box b) 0 (ds ++ (b .state .tuple ∷ [])) (swept-after b) (λ h x. refl) (λ h x. refl) (λ h x. refl) keep-settled-laid; ahead-laid = laid-frame b (kept-box b) (swept-after b) hs (b .state .top) (λ h x. refl) (λ h x. refl) (λ h x. refl) (behind-laid b ds hs free v); low-base = omega (arith, rooms-none (kept-box b)); top-fits = v .layout .top-fits }
+  keep-layout =
+      record {
+        done-laid = laid-frame b (kept-box b) 0 (ds ++ (b .state .tuple ∷ [])) (swept-after b) (λ h x. refl) (λ h x. refl) (λ h x. refl) keep-settled-laid;
+        ahead-laid = laid-frame b (kept-box b) (swept-after b) hs (b .state .top) (λ h x. refl) (λ h x. refl) (λ h x. refl) (behind-laid b ds hs free v);
+        low-base = omega (arith, rooms-none (kept-box b));
+        top-fits = v .layout .top-fits;
+      }
 
   keep-live : b .state .live ≡ swept-after b + marked-rooms b hs
   keep-live = omega (arith, live-if-marked b ds hs free v mk)
@@ -104,7 +124,21 @@ keeps b g v ph mk at-dest more =
 
 module _ (b : Box) (ds free : List ℕ) (v : Inv b (scan-ghosts b ds [] free)) (ph : b .state .phase ≡ 4) (mk : marked (b .state .tuple) b ≡ true) (at-dest : b .state .src ≡ b .state .dest) where
   last-shape : SameShape b (kept-last-box b)
-  last-shape = record { m-same = refl; h-same = refl; words-same = refl; flags-same = refl; addresses-same = refl; sizes-same = refl; links-same = refl; marks-same = length-set (b .marks) (b .state .tuple) false; deeps-same = refl; registers-same = refl; register-flags-same = refl; held-same = λ e. (e, refl) }
+  last-shape =
+      record {
+        m-same = refl;
+        h-same = refl;
+        words-same = refl;
+        flags-same = refl;
+        addresses-same = refl;
+        sizes-same = refl;
+        links-same = refl;
+        marks-same = length-set (b .marks) (b .state .tuple) false;
+        deeps-same = refl;
+        registers-same = refl;
+        register-flags-same = refl;
+        held-same = λ e. (e, refl);
+      }
 
   last-laid : Laid (kept-last-box b) 0 (ds ++ (b .state .tuple ∷ [])) (b .state .top)
   last-laid =

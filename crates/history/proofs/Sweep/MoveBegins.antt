@@ -26,10 +26,30 @@ move-begun-ghosts b ds hs free = record { plan = move-begun-plan b ds hs; free =
 
 module _ (b : Box) (ds hs free : List ℕ) (v : Inv b (scan-ghosts b ds hs free)) (ph : b .state .phase ≡ 4) (mk : marked (b .state .tuple) b ≡ true) (away : b .state .src ≢ b .state .dest) where
   begun-shape : SameShape b (move-begun-box b)
-  begun-shape = record { m-same = refl; h-same = refl; words-same = refl; flags-same = refl; addresses-same = refl; sizes-same = refl; links-same = refl; marks-same = length-set (b .marks) (b .state .tuple) false; deeps-same = refl; registers-same = refl; register-flags-same = refl; held-same = λ e. (e, refl) }
+  begun-shape =
+      record {
+        m-same = refl;
+        h-same = refl;
+        words-same = refl;
+        flags-same = refl;
+        addresses-same = refl;
+        sizes-same = refl;
+        links-same = refl;
+        marks-same = length-set (b .marks) (b .state .tuple) false;
+        deeps-same = refl;
+        registers-same = refl;
+        register-flags-same = refl;
+        held-same = λ e. (e, refl);
+      }
 
   begun-layout : Layout (move-begun-box b) (move-begun-plan b ds hs)
-  begun-layout = record { done-laid = laid-frame b (move-begun-box b) 0 ds (b .state .dest) (λ h x. refl) (λ h x. refl) (λ h x. refl) (v .layout .done-laid); ahead-laid = laid-frame b (move-begun-box b) (swept-after b) hs (b .state .top) (λ h x. refl) (λ h x. refl) (λ h x. refl) (behind-laid b ds hs free v); low-base = omega (arith, rooms-one (move-begun-box b) (b .state .tuple), dest-below-src b ds hs free v); top-fits = v .layout .top-fits }
+  begun-layout =
+      record {
+        done-laid = laid-frame b (move-begun-box b) 0 ds (b .state .dest) (λ h x. refl) (λ h x. refl) (λ h x. refl) (v .layout .done-laid);
+        ahead-laid = laid-frame b (move-begun-box b) (swept-after b) hs (b .state .top) (λ h x. refl) (λ h x. refl) (λ h x. refl) (behind-laid b ds hs free v);
+        low-base = omega (arith, rooms-one (move-begun-box b) (b .state .tuple), dest-below-src b ds hs free v);
+        top-fits = v .layout .top-fits;
+      }
 
   begun-rooms : marked-rooms (move-begun-box b) hs ≡ marked-rooms b hs
   begun-rooms = marked-rooms-frame b (move-begun-box b) hs (λ h x. refl) (λ h x. unmarked-other b ds hs free v h (ahead-other b ds hs free v h x))
@@ -69,7 +89,17 @@ module _ (b : Box) (ds hs free : List ℕ) (v : Inv b (scan-ghosts b ds hs free)
       subst (λ (w : Word). Control w (b .state .tuple)) (sym e) (control-at-src b ds hs free v)
 
   begun-move : Move (move-begun-box b) (move-begun-ghosts b ds hs free)
-  begun-move = record { unlisted = record { no-nexts = refl; no-currents = refl; no-gray = refl }; mid-is = refl; low-is = refl; base-is = refl; downward = omega (arith, dest-below-src b ds hs free v); src-is = at-src b ds hs free v; size-is = refl; control = begun-control }
+  begun-move =
+      record {
+        unlisted = record { no-nexts = refl; no-currents = refl; no-gray = refl };
+        mid-is = refl;
+        low-is = refl;
+        base-is = refl;
+        downward = omega (arith, dest-below-src b ds hs free v);
+        src-is = at-src b ds hs free v;
+        size-is = refl;
+        control = begun-control;
+      }
 
   starts-move-at : Next b (scan-ghosts b ds hs free) (move-begun-box b)
   starts-move-at =

@@ -43,10 +43,30 @@ module _ (b : Box) (ds hs free : List ℕ) (v : Inv b (scan-ghosts b ds hs free)
   freed-unmarked h (inr x) = v .marks .free-unmarked h x
 
   freed-shape : SameShape b (freed-box s t n p b)
-  freed-shape = record { m-same = refl; h-same = refl; words-same = refl; flags-same = refl; addresses-same = refl; sizes-same = refl; links-same = length-set (b .links) (b .state .tuple) (b .state .free); marks-same = refl; deeps-same = refl; registers-same = refl; register-flags-same = refl; held-same = λ e. (e, refl) }
+  freed-shape =
+      record {
+        m-same = refl;
+        h-same = refl;
+        words-same = refl;
+        flags-same = refl;
+        addresses-same = refl;
+        sizes-same = refl;
+        links-same = length-set (b .links) (b .state .tuple) (b .state .free);
+        marks-same = refl;
+        deeps-same = refl;
+        registers-same = refl;
+        register-flags-same = refl;
+        held-same = λ e. (e, refl);
+      }
 
   freed-layout : Layout (freed-box s t n p b) (freed-plan b ds hs)
-  freed-layout = record { done-laid = laid-frame b (freed-box s t n p b) 0 ds (b .state .dest) (λ h x. refl) (λ h x. refl) (λ h x. refl) (v .layout .done-laid); ahead-laid = laid-frame b (freed-box s t n p b) (swept-after b) hs (b .state .top) (λ h x. refl) (λ h x. refl) (λ h x. refl) (behind-laid b ds hs free v); low-base = omega (arith, rooms-none (freed-box s t n p b), dest-below-src b ds hs free v); top-fits = v .layout .top-fits }
+  freed-layout =
+      record {
+        done-laid = laid-frame b (freed-box s t n p b) 0 ds (b .state .dest) (λ h x. refl) (λ h x. refl) (λ h x. refl) (v .layout .done-laid);
+        ahead-laid = laid-frame b (freed-box s t n p b) (swept-after b) hs (b .state .top) (λ h x. refl) (λ h x. refl) (λ h x. refl) (behind-laid b ds hs free v);
+        low-base = omega (arith, rooms-none (freed-box s t n p b), dest-below-src b ds hs free v);
+        top-fits = v .layout .top-fits;
+      }
 
   freed-rooms : marked-rooms (freed-box s t n p b) hs ≡ marked-rooms b hs
   freed-rooms = marked-rooms-frame b (freed-box s t n p b) hs (λ h x. refl) (λ h x. refl)

@@ -41,13 +41,37 @@ module _ (b : Box) (ds hs free : List ℕ) (v : Inv b (zero-ghosts b ds hs free)
   zeroed-here = put-same (b .state .src + b .state .index) (data-word 0) b (omega (arith, zeroed-below-top, v .layout .top-fits, v .shape .words-length)) (omega (arith, zeroed-below-top, v .layout .top-fits, v .shape .flags-length))
 
   zeroed-shape : SameShape b (zeroed-box b)
-  zeroed-shape = record { m-same = refl; h-same = refl; words-same = length-set (b .words) (b .state .src + b .state .index) 0; flags-same = length-set (b .flags) (b .state .src + b .state .index) false; addresses-same = refl; sizes-same = refl; links-same = refl; marks-same = refl; deeps-same = refl; registers-same = refl; register-flags-same = refl; held-same = λ e. (e, refl) }
+  zeroed-shape =
+      record {
+        m-same = refl;
+        h-same = refl;
+        words-same = length-set (b .words) (b .state .src + b .state .index) 0;
+        flags-same = length-set (b .flags) (b .state .src + b .state .index) false;
+        addresses-same = refl;
+        sizes-same = refl;
+        links-same = refl;
+        marks-same = refl;
+        deeps-same = refl;
+        registers-same = refl;
+        register-flags-same = refl;
+        held-same = λ e. (e, refl);
+      }
 
   zeroed-layout : Layout (zeroed-box b) (zero-ghosts b ds hs free .plan)
-  zeroed-layout = record { done-laid = laid-words b (zeroed-box b) 0 ds (b .state .dest) (λ h x. refl) (λ h x. refl) (λ x l u. zeroed-other x (omega arith)) (v .layout .done-laid); ahead-laid = laid-words b (zeroed-box b) (b .state .src + b .state .size + 1) hs (b .state .top) (λ h x. refl) (λ h x. refl) (λ x l u. zeroed-other x (omega arith)) (v .layout .ahead-laid); low-base = omega (arith, rooms-none (zeroed-box b)); top-fits = v .layout .top-fits }
+  zeroed-layout =
+      record {
+        done-laid = laid-words b (zeroed-box b) 0 ds (b .state .dest) (λ h x. refl) (λ h x. refl) (λ x l u. zeroed-other x (omega arith)) (v .layout .done-laid);
+        ahead-laid = laid-words b (zeroed-box b) (b .state .src + b .state .size + 1) hs (b .state .top) (λ h x. refl) (λ h x. refl) (λ x l u. zeroed-other x (omega arith)) (v .layout .ahead-laid);
+        low-base = omega (arith, rooms-none (zeroed-box b));
+        top-fits = v .layout .top-fits;
+      }
 
   zeroed-zero : Zero (zeroed-box b) (b .state .src + (b .state .index + 1))
-  zeroed-zero = record { above-top = λ a l. zeroed-other a (omega (arith, zeroed-below-top)) ∙ v .zero-words .above-top a l; behind = λ a l u. cases a l u (ℕ-discrete a (b .state .src + b .state .index)) }
+  zeroed-zero =
+      record {
+        above-top = λ a l. zeroed-other a (omega (arith, zeroed-below-top)) ∙ v .zero-words .above-top a l;
+        behind = λ a l u. cases a l u (ℕ-discrete a (b .state .src + b .state .index));
+      }
     where
       cases : (a : ℕ) → b .state .live ≤ a → a < b .state .src + (b .state .index + 1) → Dec (a ≡ b .state .src + b .state .index) → word-at a (zeroed-box b) ≡ data-word 0
       cases a l u (yes e) = subst (λ (x : ℕ). word-at x (zeroed-box b) ≡ data-word 0) (sym e) zeroed-here
@@ -62,7 +86,15 @@ module _ (b : Box) (ds hs free : List ℕ) (v : Inv b (zero-ghosts b ds hs free)
       cases (inr x) = omega (arith, laid-bounds b (b .state .src + b .state .size + 1) hs (b .state .top) (v .layout .ahead-laid) h (x .0))
 
   zeroed-quiet : Quiet b (zero-ghosts b ds hs free .plan) (zeroed-box b) (zero-ghosts b ds hs free .plan)
-  zeroed-quiet = record { kept-to = kept-same (zeroed-box b) b (zero-ghosts b ds hs free .plan) (λ l. l) (λ h m. m); kept-from = kept-same b (zeroed-box b) (zero-ghosts b ds hs free .plan) (λ l. l) (λ h m. m); roots-same = λ r. refl; sizes-same = λ h k. refl; words-same = λ h k i l. word-late h i (zeroed-box b) (omega arith) ∙ zeroed-other (address h b + i) (zeroed-apart h k i l) ∙ sym (word-late h i b (omega arith)); deeps-same = λ h k. refl }
+  zeroed-quiet =
+      record {
+        kept-to = kept-same (zeroed-box b) b (zero-ghosts b ds hs free .plan) (λ l. l) (λ h m. m);
+        kept-from = kept-same b (zeroed-box b) (zero-ghosts b ds hs free .plan) (λ l. l) (λ h m. m);
+        roots-same = λ r. refl;
+        sizes-same = λ h k. refl;
+        words-same = λ h k i l. word-late h i (zeroed-box b) (omega arith) ∙ zeroed-other (address h b + i) (zeroed-apart h k i l) ∙ sym (word-late h i b (omega arith));
+        deeps-same = λ h k. refl;
+      }
 
   zeroes-at : Next b (zero-ghosts b ds hs free) (zeroed-box b)
   zeroes-at =
@@ -92,7 +124,21 @@ zero-on-box b = with-state (with-src (after b) (with-tuple (handle-of (word-at (
 
 module _ (b : Box) (ds hs free : List ℕ) (v : Inv b (zero-ghosts b ds hs free)) (ph : b .state .phase ≡ 8) (through : b .state .index ≡ b .state .size + 1) (more : after b ≢ b .state .top) where
   zero-on-shape : SameShape b (zero-on-box b)
-  zero-on-shape = record { m-same = refl; h-same = refl; words-same = refl; flags-same = refl; addresses-same = refl; sizes-same = refl; links-same = refl; marks-same = refl; deeps-same = refl; registers-same = refl; register-flags-same = refl; held-same = λ e. (e, refl) }
+  zero-on-shape =
+      record {
+        m-same = refl;
+        h-same = refl;
+        words-same = refl;
+        flags-same = refl;
+        addresses-same = refl;
+        sizes-same = refl;
+        links-same = refl;
+        marks-same = refl;
+        deeps-same = refl;
+        registers-same = refl;
+        register-flags-same = refl;
+        held-same = λ e. (e, refl);
+      }
 
   zero-on-quiet : Quiet b (zero-ghosts b ds hs free .plan) (zero-on-box b) (zero-ghosts b ds hs free .plan)
   zero-on-quiet =
@@ -130,7 +176,21 @@ zero-on b g v ph past more =
 
 module _ (b : Box) (ds free : List ℕ) (v : Inv b (zero-ghosts b ds [] free)) (ph : b .state .phase ≡ 8) (order : b .state .dest ≤ b .state .src) (through : b .state .index ≡ b .state .size + 1) where
   zeroed-last-shape : SameShape b (zeroed-last-box b)
-  zeroed-last-shape = record { m-same = refl; h-same = refl; words-same = refl; flags-same = refl; addresses-same = refl; sizes-same = refl; links-same = refl; marks-same = refl; deeps-same = refl; registers-same = refl; register-flags-same = refl; held-same = λ e. (e, refl) }
+  zeroed-last-shape =
+      record {
+        m-same = refl;
+        h-same = refl;
+        words-same = refl;
+        flags-same = refl;
+        addresses-same = refl;
+        sizes-same = refl;
+        links-same = refl;
+        marks-same = refl;
+        deeps-same = refl;
+        registers-same = refl;
+        register-flags-same = refl;
+        held-same = λ e. (e, refl);
+      }
 
   -- live is dest, and all from there on is data 0
   zeroed-last-live : b .state .live ≡ b .state .dest

@@ -303,7 +303,12 @@ store-view r s k b q l m = by-pointer (points (register s b) b)
 
     by-place : names-tuple (register s b) ≡ true → Entry (named s b) b → number s k b < size-of (named s b) b
         → (in-memory (place-of s k b) b ≡ true) ⊎ (in-memory (place-of s k b) b ≡ false) → Asked b (Store r s k)
-    by-place n e i (inl p) = by-stored (record { is-pointer = n; entry = e; inside = i; somewhere = p }) (simp (at-entry (register s b) b n e, word-there (named s b) (number s k b) b i p)) (stored (register r b) b)
+    by-place n e i (inl p) = by-stored (record {
+      is-pointer = n;
+      entry = e;
+      inside = i;
+      somewhere = p;
+    }) (simp (at-entry (register s b) b n e, word-there (named s b) (number s k b) b i p)) (stored (register r b) b)
     by-place n e i (inr p) =
         refuses-lost (q .sound-is) (q .free-is) (place-past s m n e (number s k b + 1) (omega arith) p)
         (q .rule ∙ simp (at-entry (register s b) b n e, word-past (named s b) (number s k b) b i p))
