@@ -2,6 +2,6 @@
 pub mod Statement
 pub mod Going
 pub mod Ending
-pub mod Asking
+pub mod Carried
 pub mod Requests
 pub mod Steps

@@ -1,3 +1,4 @@
+-- The proof of demand 3, in reading order; docs/PROOF.md tells the argument.
 pub mod Lists
 pub mod Invariant
 pub mod View

@@ -66,9 +66,12 @@ unfolding read
 put-read r w b copy-place = refl
 put-read r w b (at a) = refl
 
-put-word : (r : ℕ) (w : Word) (b : Box) (h i : ℕ) → word h i (put-register r w b) ≡ word h i b
+pub put-word : (r : ℕ) (w : Word) (b : Box) (h i : ℕ) → word h i (put-register r w b) ≡ word h i b
 unfolding word place being-moved
 put-word r w b h i = put-read r w b (place h i b)
+
+pub put-kept-to : (r : ℕ) (w : Word) (b : Box) (p : Plan) (h : ℕ) → Kept (put-register r w b) p h → Kept b p h
+put-kept-to r w b p = steady-kept-to b (put-register r w b) p (put-steady r w b)
 
 pub register-put-same : (r : ℕ) (w : Word) (b : Box) → Shape b → r < register-count → register r (put-register r w b) ≡ w
 register-put-same r w b s l = λ i. record { bits = getD-set-same (b .state .registers) r (w .bits) 0 (omega (arith, s .registers-length)) i; flag = getD-set-same (b .state .flags) r (w .flag) false (omega (arith, s .register-flags-length)) i }
@@ -79,7 +82,7 @@ register-put-other r w b s n = λ i. record { bits = getD-set-other (b .state .r
 pub register-put : (b : Box) (g : Ghosts) → Inv b g → (r : ℕ) (w : Word) → r < register-count → Put b (g .plan) (put-register r w b) r w
 register-put b g v r w l =
     record {
-      kept-to = steady-kept-to b (put-register r w b) (g .plan) (put-steady r w b);
+      kept-to = put-kept-to r w b (g .plan);
       kept-from = steady-kept-from b (put-register r w b) (g .plan) (put-steady r w b);
       register-put = register-put-same r w b (v .shape) l;
       registers-same = register-put-other r w b;

@@ -1,5 +1,5 @@
--- Every request leaves all as it should be, and none answers 9: by cases on the view of requests, each met by its lemma. Assumes
--- nothing.
+-- Every request leaves all as it should be, and none answers 9: by cases on the view of requests, each met by its lemma.
+-- Assumes nothing.
 use Prim.Native.Nat.{ℕ, _+_}
 use mathlib.Core.Bool.{true, false, true≢false, cond}
 use mathlib.Core.Logic.{_≢_}
@@ -7,7 +7,7 @@ use mathlib.Core.Path.{_≡_, sym, _∙_, subst}
 use native.Mathlib.Omega.{arith}
 use borrow.Author.Tests.{ne-eqb}
 use Rattle.memory.specs.declared.request.Request.{Request}
-use Rattle.memory.specs.declared.request.Request.the-variants.{Setd, Nil, Move, Advance, Getm, Load, Store, Size, Tag, Same}
+use Rattle.memory.specs.declared.request.Request.the-variants.{Setd, Nil, Move, Advance, Load, Size, Tag, Same}
 use Rattle.memory.specs.Box.{Box, Reply, reply, data-word, pointer, offset-of, tag-of, register, size-of}
 use Rattle.memory.specs.Place.{place, read}
 use Rattle.memory.specs.Request.{same-word, request}
@@ -20,7 +20,7 @@ use Rattle.history.proofs.Asking.Registers.{register-takes-data, regist
 use Rattle.history.proofs.Asking.Store.{stores-late, stores-marked}
 use Rattle.history.proofs.Relation.Registers.{related-setd, related-nil, related-move, related-advance, related-load, related-size, related-nil-size, related-tag, related-nil-tag, related-same}
 use Rattle.history.proofs.Good.Statement.{Good}
-use Rattle.history.proofs.Good.Asking.{good-hold, good-register, good-new, good-store-data, good-store-deep, good-store-shaded}
+use Rattle.history.proofs.Good.Carried.{good-hold, good-register, good-new, good-store-data, good-store-deep, good-store-shaded}
 use Rattle.history.proofs.Invariant.Theorems.{never-loss}
 
 -- ---- nothing is lost

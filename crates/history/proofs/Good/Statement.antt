@@ -1,5 +1,6 @@
 -- What holds of the box, the history machine and the log after any list of calls: the invariant, the relation with the history
--- machine, what is known of the cycle under way and of the hold, and demand 3's claims about what has ended so far.
+-- machine, what is known of the cycle under way and of the hold, and demand 3's claims about what has ended so far. Definitions
+-- only. Assumes nothing.
 use Prim.Native.Nat.{ℕ, _+_, _*_, _≤_}
 use mathlib.Core.Bool.{true, false}
 use mathlib.Core.List.{List}

@@ -1,5 +1,6 @@
 -- The invariant of every grown box, over the box and its ghosts. Ghosts are carried beside the box and changed by rule, never
 -- recomputed from it. The clauses stand in groups; only `Stage` goes by the phase, and the others hold alike in every phase.
+-- Definitions only. Assumes nothing.
 use Prim.Native.Nat.{ℕ, suc, _+_, _≤_, _<_}
 use mathlib.Core.Bool.{true, false, cond}
 use mathlib.Core.List.{List, [], _∷_, _++_}

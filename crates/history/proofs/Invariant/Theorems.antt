@@ -1,6 +1,8 @@
--- The invariant of every grown box: an opening has it, a step keeps it and so does a request, and with it no call answers 9. The
--- steps left fall with each step that ends no cycle, so a cycle that no request comes between ends within 8 top + 2 steps. Each by the
--- view of the call, whose cases meet their lemmas. Assumes nothing.
+-- The invariant of every grown box: an opening has it (`invariant-open`), a step and a request keep it (`invariant-step`,
+-- `invariant-request`), and with it no call answers 9 (`never-nine-step`, `never-nine-request`) and the words from top on are
+-- data 0 (`words-above-top`). The steps left fall with each step that ends no cycle (`left-falls`), so a cycle that no request
+-- comes between ends within 8 top + 2 steps (`cycle-bound`). Each by the view of the call, whose cases meet their lemmas.
+-- Assumes nothing.
 use Prim.Native.Nat.{ℕ, zero, suc, _+_, _*_, _≤_, _<_}
 use mathlib.Core.Bool.{Bool, true, false, cond}
 use mathlib.Core.List.{[]}

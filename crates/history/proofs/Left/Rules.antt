@@ -1,6 +1,5 @@
--- The steps left fall with each step that ends no cycle: the laws of marking and of the sweep at the boxes that the rules of
--- document 01 leave, with the facts by which a rule chooses. The ghosts after a step are any with which the invariant holds.
--- Assumes nothing.
+-- The steps left fall with a transition at the box that its rule leaves, where that takes more than to cite the law of marking
+-- or of the sweep. The ghosts after it are any with which the invariant holds. Assumes nothing.
 use Prim.Native.Nat.{ℕ, _+_, _≤_, _<_}
 use mathlib.Core.Bool.{Bool, true, false}
 use mathlib.Core.List.{List}

@@ -1,6 +1,6 @@
--- The steps left are the same where nothing that the count reads has changed, whatever ghosts the invariant holds with: in a box that
--- differs only in its registers or its hold, and in one box with other ghosts. The ghosts that the count reads are fixed by what stays,
--- and then each phase's count is the same. Assumes nothing.
+-- The steps left are the same where nothing that the count reads has changed, whatever ghosts the invariant holds with: so a
+-- request put on hold leaves them as they were. The ghosts that the count reads are fixed by what stays, and then each phase's
+-- count is the same. Assumes nothing.
 use Prim.Native.Nat.{ℕ, zero, suc, _≤_}
 use mathlib.Core.Path.{_≡_, refl, ap, _∙_}
 use native.Mathlib.Omega.{arith}

@@ -1,6 +1,6 @@
--- Boxes that are alike: they differ only in links, marks and the collector's numbers. While a cycle marks, each transition leaves a
--- box alike to the one before it; so all groups of clauses but the marks carry over, and the words of the tuples too. Assumes
--- nothing.
+-- Boxes that are alike: they differ only in links, marks and the collector's numbers. While a cycle marks, each transition
+-- leaves a box alike to the one before it; so all groups of clauses but the marks carry over, and the words of the tuples too.
+-- Assumes nothing.
 use Prim.Native.Nat.{ℕ, _+_, _≤_, _<_}
 use mathlib.Core.Bool.{true, false}
 use mathlib.Core.List.{List, []}

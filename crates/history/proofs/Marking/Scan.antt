@@ -1,5 +1,5 @@
--- Phases 2 and 3: looking at a word of the tuple under the scan, shading what it points to, and taking the next tuple to scan keep
--- the invariant. What the words before the index point to is marked, so that a tuple scanned to its end is black. Assumes
+-- Phases 2 and 3: looking at a word of the tuple under the scan, shading what it points to, and taking the next tuple to scan
+-- keep the invariant. What the words before the index point to is marked, so that a tuple scanned to its end is black. Assumes
 -- nothing.
 use Prim.Native.Nat.{ℕ, _+_, _-_, _≤_, _<_}
 use mathlib.Core.Bool.{true, false, false≢true}

@@ -1,6 +1,6 @@
--- Shading a tuple that lies ahead keeps the invariant: it is marked and counted in live, and a deep one comes to the head of the
--- next list. A tuple that is not deep holds no pointer, so it is black at once. Each group of clauses has a law of its own, for
--- a caller that goes on to change the phase or a word. Assumes nothing.
+-- Shading a tuple that lies ahead keeps the invariant: it is marked and counted in live, and a deep one comes to the head of
+-- the next list. A tuple that is not deep holds no pointer, so it is black at once. By the three cases of the rule. Assumes
+-- nothing.
 use Prim.Native.Nat.{ℕ, _+_, _≤_, _<_}
 use mathlib.Core.Bool.{Bool, true, false, cond, false≢true}
 use mathlib.Core.List.{List, _∷_, _++_}

@@ -1,6 +1,6 @@
--- The tuple on its way, in phases 5, 6 and 7: where it lies and how far it goes, and
--- that every other kept tuple lies below dest or behind the words that the moved tuple came from. From the layout, the sum in
--- live, and that every handle stands once. Last, that no rule of these phases finds a number out of bounds. Assumes nothing.
+-- The tuple on its way, in phases 5, 6 and 7: where it lies and how far it goes, and that every other kept tuple lies below
+-- dest or behind the words that the moved tuple came from. From the layout, the sum in live, and that every handle stands once.
+-- Last, that no rule of these phases finds a number out of bounds. Assumes nothing.
 use Prim.Native.Nat.{ℕ, _+_, _≤_, _<_}
 use mathlib.Core.List.{List, [], _∷_}
 use mathlib.Core.Logic.{_≢_, inl, inr}

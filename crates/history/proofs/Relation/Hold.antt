@@ -1,5 +1,5 @@
--- The hold is no part of the relation: a request put on hold, a hold dropped and a hold granted keep it. And whatever is fed to the
--- history machine, it has as many registers as before. Assumes nothing.
+-- The hold is no part of the relation: a request put on hold, a hold dropped and a hold granted keep it. And whatever request
+-- is done on the history machine, it has as many registers as before. Assumes nothing.
 use Prim.Native.Nat.{ℕ, suc, _+_, _<_}
 use mathlib.Core.Bool.{Bool, true, false, cond}
 use mathlib.Core.List.{List, [], _∷_, _++_}

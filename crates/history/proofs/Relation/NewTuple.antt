@@ -1,7 +1,7 @@
--- A new tuple keeps the relation with the history machine, where it is made by a request or granted at the end of a cycle. `Made`
--- says what it changes in the box; the history machine's tuples before it stand as they were, and its number is one more than
--- theirs. No register and no word of a kept tuple named its handle before, so no number that the relation speaks of changes.
--- Assumes nothing.
+-- A new tuple keeps the relation with the history machine, where it is made by a request or granted at the end of a cycle.
+-- `Made` says what it changes in the box (Asking/NewTuple); the history machine's tuples before it stand as they were, and its
+-- number is one more than theirs. No register and no word of a kept tuple named its handle before, so no number that the
+-- relation speaks of changes. Assumes nothing.
 use Prim.Native.Nat.{ℕ, suc, _+_, _≤_, _<_, zero-le, suc-le-suc}
 use mathlib.Core.Bool.{true, cond}
 use mathlib.Core.List.{List, [], _∷_, _++_}

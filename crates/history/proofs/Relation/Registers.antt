@@ -56,7 +56,7 @@ same-alike number given v w (pointer-to i o) (pointer-to j q) e f m n = simp (e 
 module _ (b : Box) (g : Ghosts) (m : History) (given : List ℕ) (number : ℕ → ℕ) (i : Inv b g) (s : Related b (g .plan) m given number) (eight : length (m .registers) ≡ register-count) where
   -- register r takes words that match
   put-both : (r : ℕ) (w : Word) (v : HWord) → r < register-count → Match number w v → Related (put-register r w b) (g .plan) (put-in r v m) given number
-  put-both r w v l e = related-put r w v b (g .plan) m given number (i .shape .registers-length) (i .shape .register-flags-length) eight l e s
+  put-both r w v l e = related-put r w v b (g .plan) m given number (i .shape) eight l e s
 
   pub related-setd : (r v : ℕ) → r < register-count → Related (put-register r (data-word v) b) (g .plan) (do-request (Setd r v) m) given number
   unfolding do-request

@@ -1,21 +1,19 @@
 -- The relation with the history machine is kept where nothing that it speaks of changes: by every step of the collector that
 -- makes no tuple (`Calm`), and by a request that writes a register. Assumes nothing.
 use Prim.Native.Nat.{ℕ, _+_, _≤_, _<_, zero-le}
-use mathlib.Core.Bool.{false}
 use mathlib.Core.List.{List}
-use mathlib.Core.Logic.{_≢_}
-use mathlib.Core.Path.{_≡_, refl, sym, _∙_, ap, subst}
+use mathlib.Core.Path.{_≡_, sym, _∙_, ap, subst}
 use native.Mathlib.Decide.{ℕ-discrete}
 use native.Mathlib.Omega.{arith}
 use lib.ListN.{length}
 use lib.Seq.{getD-set-same, getD-set-other}
 use Rattle.memory.specs.Limits.{register-count}
 use Rattle.memory.specs.Box.{Box, Word, tag-of, register, put-register, size-of}
-use Rattle.memory.specs.Place.{Place, copy-place, at, being-moved, place, read}
 use Rattle.history.specs.Machine.{HWord, datum, History, register-of, put-in, word-of}
-use Rattle.history.proofs.Invariant.Statement.{Plan, word, Kept, settled, moving, unswept, surviving}
+use Rattle.history.proofs.Invariant.Statement.{Plan, Kept, Shape}
 use Rattle.history.proofs.Invariant.Frame.{Calm}
 use Rattle.history.proofs.Relation.Statement.{Match, Holds, Related}
+use Rattle.history.proofs.Asking.Registers.{put-word, put-kept-to, register-put-same, register-put-other}
 
 -- ---- the collector
 
@@ -44,53 +42,31 @@ related-calm b c p q m given number s e i =
 
 -- ---- a register
 
--- the registers are no part of where a word is
-read-put : (r : ℕ) (w : Word) (q : Place) (b : Box) → read q (put-register r w b) ≡ read q b
-unfolding read
-read-put r w copy-place b = refl
-read-put r w (at a) b = refl
-
-word-put : (r : ℕ) (w : Word) (h i : ℕ) (b : Box) → word h i (put-register r w b) ≡ word h i b
-unfolding word place being-moved
-word-put r w h i b = read-put r w (place h i b) b
-
-pub kept-put : (r : ℕ) (w : Word) (b : Box) (p : Plan) (h : ℕ) → Kept (put-register r w b) p h → Kept b p h
-kept-put r w b p h (settled x) = settled x
-kept-put r w b p h (moving x) = moving x
-kept-put r w b p h (unswept x l) = unswept x l
-kept-put r w b p h (surviving x t) = surviving x t
-
 -- register r takes a word on both sides
-pub related-put : (r : ℕ) (w : Word) (v : HWord) (b : Box) (p : Plan) (m : History) (given : List ℕ) (number : ℕ → ℕ) → length (b .state .registers) ≡ register-count → length (b .state .flags) ≡ register-count → length (m .registers) ≡ register-count → r < register-count
+pub related-put : (r : ℕ) (w : Word) (v : HWord) (b : Box) (p : Plan) (m : History) (given : List ℕ) (number : ℕ → ℕ) → Shape b → length (m .registers) ≡ register-count → r < register-count
     → Match number w v → Related b p m given number → Related (put-register r w b) p (put-in r v m) given number
-related-put r w v b p m given number lr lf lm l e i =
+related-put r w v b p m given number sh lm l e i =
     record { roots-match = roots; kept-hold = held; nil-number = i .nil-number; all-given = i .all-given; given-entry = i .given-entry; number-latest = i .number-latest }
   where
-    here : register r (put-register r w b) ≡ w
-    here = λ j. record { bits = getD-set-same (b .state .registers) r (w .bits) 0 (rw lr l) j; flag = getD-set-same (b .state .flags) r (w .flag) false (rw lf l) j }
-
-    there : (s : ℕ) → s ≢ r → register s (put-register r w b) ≡ register s b
-    there s n = λ j. record { bits = getD-set-other (b .state .registers) r s (w .bits) 0 n j; flag = getD-set-other (b .state .flags) r s (w .flag) false n j }
-
     roots : (s : ℕ) → s < register-count → Match number (register s (put-register r w b)) (register-of s (put-in r v m))
     roots s u = go (ℕ-discrete s r)
       where
         go : Dec (s ≡ r) → Match number (register s (put-register r w b)) (register-of s (put-in r v m))
         go (yes q) =
             subst (λ (x : ℕ). Match number (register x (put-register r w b)) (register-of x (put-in r v m))) (sym q)
-            (subst (λ (x : Word). Match number x (register-of r (put-in r v m))) (sym here)
+            (subst (λ (x : Word). Match number x (register-of r (put-in r v m))) (sym (register-put-same r w b sh l))
             (subst (λ (y : HWord). Match number w y) (sym (getD-set-same (m .registers) r v (datum 0) (rw lm l))) e))
         go (no n) =
-            subst (λ (x : Word). Match number x (register-of s (put-in r v m))) (sym (there s n))
+            subst (λ (x : Word). Match number x (register-of s (put-in r v m))) (sym (register-put-other r w b s n))
             (subst (λ (y : HWord). Match number (register s b) y) (sym (getD-set-other (m .registers) r s v (datum 0) n)) (i .roots-match s u))
 
     held : (h : ℕ) → Kept (put-register r w b) p h → Holds (put-register r w b) (put-in r v m) given number h
     held h k =
-        let y : Holds b m given number h = i .kept-hold h (kept-put r w b p h k) in
+        let y : Holds b m given number h = i .kept-hold h (put-kept-to r w b p h k) in
         record {
           number-made = y .number-made;
           handle-given = y .handle-given;
           size-same = y .size-same;
-          tag-same = ap tag-of (word-put r w h 0 b) ∙ y .tag-same;
-          words-match = λ n u. subst (λ (x : Word). Match number x (word-of (number h) n m)) (sym (word-put r w h (n + 1) b)) (y .words-match n u);
+          tag-same = ap tag-of (put-word r w b h 0) ∙ y .tag-same;
+          words-match = λ n u. subst (λ (x : Word). Match number x (word-of (number h) n m)) (sym (put-word r w b h (n + 1))) (y .words-match n u);
         }

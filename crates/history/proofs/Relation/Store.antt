@@ -1,5 +1,6 @@
--- STORE keeps the relation with the history machine. `Stored` says what it changes in the box: one word of one tuple. The history
--- machine changes that word of the tuple with its number, and no other kept tuple has that number. Assumes nothing.
+-- STORE keeps the relation with the history machine. `Stored` says what it changes in the box (Asking/Write): one word of one
+-- tuple. The history machine changes that word of the tuple with its number, and no other kept tuple has that number. Assumes
+-- nothing.
 use Prim.Native.Nat.{ℕ, zero, suc, _+_, _≤_, _<_, zero-le}
 use mathlib.Core.Bool.{Bool, cond}
 use mathlib.Core.List.{List, [], _∷_}

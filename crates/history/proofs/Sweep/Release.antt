@@ -1,6 +1,6 @@
--- An unmarked tuple is released: the transitions of phase 4 that put its handle at the head of the free list, and go on behind it
--- or begin to zero its words. It was not kept, so no kept tuple changes, and every group is read off the invariant before. Assumes
--- nothing.
+-- An unmarked tuple is released: the transitions of phase 4 that put its handle at the head of the free list, and go on behind
+-- it or begin to zero its words. It was not kept, so no kept tuple changes, and every group is read off the invariant before.
+-- Assumes nothing.
 use Prim.Native.Nat.{ℕ, _+_, _-_, _≤_, _<_}
 use mathlib.Core.Bool.{true, false, false≢true}
 use mathlib.Core.List.{List, _∷_}

@@ -1,5 +1,5 @@
--- The boxes that the transitions of the collector leave, by phase. A transition that leaves the box of a rule as document 01 builds it has
--- no name here. Definitions only.
+-- The boxes that the transitions of the collector leave, by phase, where the rule's own definition is not the box already. The
+-- views and the transitions' lemmas speak of these. Definitions only. Assumes nothing.
 use Prim.Native.Nat.{ℕ, _+_, _-_}
 use mathlib.Core.Bool.{false, _||_}
 use Rattle.memory.specs.State.{with-top, with-free, with-phase, with-live, with-current, with-next, with-src, with-dest, with-tuple, with-size, with-index, with-copy, with-copy-flag, with-begun}

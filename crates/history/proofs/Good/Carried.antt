@@ -1,5 +1,6 @@
--- A request leaves all as it should be, whatever it answers: refused it changes nothing, held only the hold, and carried out it does on
--- both machines what its kind says. By cases on the view of requests. Assumes nothing.
+-- A request that is put on hold or carried out leaves all as it should be: held, it changes the hold alone; carried out, it
+-- does on both machines what its kind says. For each kind the invariant, the relation and what the cycle may keep are cited.
+-- Assumes nothing.
 use Prim.Native.Nat.{ℕ, suc, _+_, _*_, _≤_, _<_}
 use mathlib.Core.Bool.{Bool, true, false, true≢false, false≢true, cond}
 use mathlib.Core.List.{[], _∷_, _++_}
@@ -25,11 +26,10 @@ use Rattle.history.proofs.Left.Bounds.{left-bound-m}
 use Rattle.history.proofs.Left.Same.{left-held}
 use Rattle.history.proofs.Asking.InRange.{free-bounds}
 use Rattle.history.proofs.Asking.NewTuple.{New, new-box, made-plan, made-ghosts, invariant-new-tuple, Made, new-tuple-made}
-use Rattle.history.proofs.Asking.Registers.{invariant-hold, hold-quiet}
+use Rattle.history.proofs.Asking.Registers.{invariant-hold, hold-quiet, put-kept-to}
 use Rattle.history.proofs.Asking.Write.{Stored}
 use Rattle.history.proofs.Asking.Store.{stores-data, data-stored, deep-stored, stores-shaded, shaded-stored}
 use Rattle.history.proofs.Relation.Statement.{Related}
-use Rattle.history.proofs.Relation.Still.{kept-put}
 use Rattle.history.proofs.Relation.NewTuple.{renumbered, related-made}
 use Rattle.history.proofs.Relation.Hold.{registers-request, related-hold}
 use Rattle.history.proofs.Relation.Store.{related-store, stored-in}
@@ -221,7 +221,7 @@ module _ (m h : ℕ) (b : Box) (t : History) (l : Log) (k : Good m h b t l) (u :
         phase-same = refl;
         tuple-same = refl;
         marked-from = λ y z. inl z;
-        kept-to = kept-put r w b (g .plan);
+        kept-to = put-kept-to r w b (g .plan);
       }) (spared-request t started (tracked-in b (g .plan) t (k .number) started x) (k .eight) q) x)
 
   pub good-new : (r n tag : ℕ) → r < register-count → tag < half-word → b .state .free ≢ 0 → b .state .top + n + 1 ≤ b .state .m → Good m h (new-tuple r n tag b) (do-request (Getm r n tag) t) (log-done (Getm r n tag) (new-tuple r n tag b) l)
