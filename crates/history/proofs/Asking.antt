@@ -5,6 +5,5 @@ pub mod InRange
 pub mod Steady
 pub mod Registers
 pub mod NewTuple
-pub mod Grant
 pub mod Write
 pub mod Store

@@ -153,23 +153,18 @@ last-member h f hs m = cases (member-cases h hs (f ∷ []) m)
 -- what changed for the kept tuples: one more, with words of data 0
 pub record Made (b : Box) (p : Plan) (c : Box) (q : Plan) (r n tag : ℕ) : Type 0 where
   pub kept-to : (h : ℕ) → Kept c q h → Kept b p h ⊎ (h ≡ b .state .free)
-  pub kept-from : (h : ℕ) → Kept b p h → Kept c q h
-  pub made-kept : Kept c q (b .state .free)
   pub was-free : ¬ Kept b p (b .state .free)
   pub handle-not-nil : b .state .free ≢ 0
   pub handle-below : b .state .free < b .state .h
   pub h-same : c .state .h ≡ b .state .h
   pub made-size : size-of (b .state .free) c ≡ n
-  pub made-control : word (b .state .free) 0 c ≡ control-word (b .state .free) tag
   pub made-tag : tag-of (word (b .state .free) 0 c) ≡ tag
   pub made-words : (k : ℕ) → k < n → word (b .state .free) (k + 1) c ≡ data-word 0
-  pub made-deep : deep (b .state .free) c ≡ false
   pub register-made : register r c ≡ pointer (b .state .free) 0
   pub made-handle : handle-of (register r c) ≡ b .state .free
   pub registers-same : (s : ℕ) → s ≢ r → register s c ≡ register s b
   pub sizes-same : (h : ℕ) → Kept b p h → size-of h c ≡ size-of h b
   pub words-same : (h : ℕ) → Kept b p h → (i : ℕ) → i ≤ size-of h b → word h i c ≡ word h i b
-  pub deeps-same : (h : ℕ) → Kept b p h → deep h c ≡ deep h b
 
 control-handle : (h tag : ℕ) → In16 tag → handle-of (control-word h tag) ≡ h
 control-handle h tag l = omega (arith, mul-add-div-right {m = half-word} (omega arith) h tag, div-eq-of-lt {n = tag} {m = half-word} l)
@@ -491,23 +486,18 @@ module _ (b : Box) (g : Ghosts) (c : Box) (r n tag : ℕ) (v : Inv b g) (d : b .
   new-made =
       record {
         kept-to = new-kept-to;
-        kept-from = new-kept-from;
-        made-kept = new-kept;
         was-free = λ k. kept-differs (b .state .free) k refl;
         handle-not-nil = d;
         handle-below = free-bounds b g v d .1;
         h-same = u .h-same;
         made-size = u .size-new;
-        made-control = new-control;
         made-tag = ap (λ (w : Word). tag-of w) new-control ∙ control-tag (b .state .free) tag t;
         made-words = λ k x. new-data k;
-        made-deep = u .deep-new;
         register-made = u .register-new;
         made-handle = ap (λ (w : Word). handle-of w) (u .register-new) ∙ control-handle (b .state .free) 0 (omega arith);
         registers-same = u .register-other;
         sizes-same = λ h k. u .size-other h (kept-differs h k);
         words-same = new-word-same;
-        deeps-same = λ h k. u .deep-other h (kept-differs h k);
       }
 
 -- ---- GETM carried out, and a grant

@@ -39,8 +39,8 @@ module _ (m h : ℕ) (b : Box) (t : History) (l : Log) (k : Good m h b t l) wher
       none-held (nothing-held q x o) = x
       none-held (one-held q y x w o z) = absurd (true≢false (sym q ∙ sym (s .held-same) ∙ p))
   by-ending c n d s a sp (CycleEnd.ends-held p o q e) = subst (After m h b t l) (sym e) (on (inr refl) (good-held m h b t l k c n d s a sp p q))
-  by-ending c n d s a sp (CycleEnd.ends-dropped p o q e i y) = subst (After m h b t l) (sym e) (dropped refl (good-dropped m h b t l k c n d s a sp p q o))
-  by-ending c n d s a sp (CycleEnd.ends-granted p f u e i y) = subst (After m h b t l) (sym e) (given refl (good-granted m h b t l k c n d s a sp p f u))
+  by-ending c n d s a sp (CycleEnd.ends-dropped p o q e i) = subst (After m h b t l) (sym e) (dropped refl (good-dropped m h b t l k c n d s a sp p q o))
+  by-ending c n d s a sp (CycleEnd.ends-granted p f u e i) = subst (After m h b t l) (sym e) (given refl (good-granted m h b t l k c n d s a sp p f u))
 
   pub after-step : After m h b t l (step b)
   unfolding log-step

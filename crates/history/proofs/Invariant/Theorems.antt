@@ -73,8 +73,8 @@ step-ended b c g v s = go (cycle-end b c g v)
     go : CycleEnd b c g → Grown (step b)
     go (CycleEnd.ends-free h e) = grown (step b) (at-rest c) 31 g (s ∙ e) v
     go (CycleEnd.ends-held h n t e) = grown (step b) (at-rest c) 33 g (s ∙ e) v
-    go (CycleEnd.ends-dropped h n t e i q) = grown (step b) (unheld (at-rest c)) 8 g (s ∙ e) i
-    go (CycleEnd.ends-granted h f t e i q) = grown (step b) (granted (at-rest c)) 32 (made-ghosts g (c .state .free)) (s ∙ e) i
+    go (CycleEnd.ends-dropped h n t e i) = grown (step b) (unheld (at-rest c)) 8 g (s ∙ e) i
+    go (CycleEnd.ends-granted h f t e i) = grown (step b) (granted (at-rest c)) 32 (made-ghosts g (c .state .free)) (s ∙ e) i
 
 -- and its answer: 31, 33, 8 or 32
 end-not-nine : (b : Box) (c : Box) (g : Ghosts) → Inv (at-rest c) g → step b ≡ end-cycle b c → step b .answer ≢ 9
@@ -83,8 +83,8 @@ end-not-nine b c g v s = go (cycle-end b c g v)
     go : CycleEnd b c g → step b .answer ≢ 9
     go (CycleEnd.ends-free h e) = answers (step b) (at-rest c) 31 9 (s ∙ e) (omega arith)
     go (CycleEnd.ends-held h n t e) = answers (step b) (at-rest c) 33 9 (s ∙ e) (omega arith)
-    go (CycleEnd.ends-dropped h n t e i q) = answers (step b) (unheld (at-rest c)) 8 9 (s ∙ e) (omega arith)
-    go (CycleEnd.ends-granted h f t e i q) = answers (step b) (granted (at-rest c)) 32 9 (s ∙ e) (omega arith)
+    go (CycleEnd.ends-dropped h n t e i) = answers (step b) (unheld (at-rest c)) 8 9 (s ∙ e) (omega arith)
+    go (CycleEnd.ends-granted h f t e i) = answers (step b) (granted (at-rest c)) 32 9 (s ∙ e) (omega arith)
 
 pub invariant-step : (b : Box) (g : Ghosts) → Inv b g → (g′ : Ghosts) × Inv (step b .box) g′
 invariant-step b g v = go (stepped b g v)

@@ -49,9 +49,6 @@ module _ (m started : History) (s : SparedIn m started) where
           go (yes q) (no u) = s .roots-spared t i o l (ap (λ (x : List HWord). getD x t (datum 0)) (sym (set-out (m .registers) r v (omega arith))) ∙ e) n
           go (no q) d = s .roots-spared t i o l (sym (getD-set-other (m .registers) r t v (datum 0) q) ∙ e) n
 
-  register-spared : (t : ℕ) → t < register-count → SparedWord started (register-of t m)
-  register-spared t l i o e n = s .roots-spared t i o l e n
-
   -- a tuple is made: its number is beyond those of the start, and its words are data
   new-spared : SparedWord started (pointer-to (suc (made m)) 0)
   new-spared i o e n =

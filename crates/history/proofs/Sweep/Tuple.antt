@@ -34,9 +34,6 @@ module _ (b : Box) (ds hs free : List ℕ) (v : Inv b (scan-ghosts b ds hs free)
   pub four-parts : Parts ds [] (b .state .tuple ∷ hs) free
   four-parts = parts ds [] (b .state .tuple ∷ hs) free (v .handles .distinct)
 
-  pub done-other : (h : ℕ) → Member h ds → h ≢ b .state .tuple
-  done-other h x e = four-parts .done-ahead h x (inl e)
-
   pub ahead-other : (h : ℕ) → Member h hs → h ≢ b .state .tuple
   ahead-other h x = member-differs h (b .state .tuple) hs x (four-parts .ahead-distinct .0)
 
