@@ -23,8 +23,6 @@ use Rattle.history.proofs.Good.Statement.{Good}
 use Rattle.history.proofs.Good.Carried.{good-hold, good-register, good-new, good-store-data, good-store-deep, good-store-shaded}
 use Rattle.history.proofs.Invariant.Theorems.{never-loss}
 
--- ---- nothing is lost
-
 -- ---- what is to be shown of a reply
 
 pub record GoodReply (m h : ℕ) (q : Request) (r : Reply) (t : History) (l : Log) : Type 0 where

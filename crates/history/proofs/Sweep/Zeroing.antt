@@ -22,8 +22,6 @@ use Rattle.history.proofs.Invariant.Resting.{resting-plan}
 use Rattle.history.proofs.Sweep.Ghosts.{no-scans, sweep-ghosts, unlisted, zero-ghosts, Zeroed, zeroed-view, next-at, Ended, ended-at, rooms-none, marked-rooms-nil, live-swept, kept-swept, plain-quiet, next-tuple}
 use Rattle.history.proofs.View.Boxes.{zeroed-last-box}
 
--- ---- a word is put into memory
-
 -- ---- a word becomes data 0
 
 abbrev pub zeroed-box : Box → Box
