@@ -87,7 +87,9 @@ stepping : (m h : ℕ) (w : World) → GoodWorld m h w → After m h (w .box) (w
 unfolding after-step feed
 stepping m h w k a = go a
   where
-    by : (x : ℕ) → step (w .box) .answer ≡ x → x ≢ 9 → Good m h (step (w .box) .box) (feed single-step x (w .history)) (log-step (w .box) (step (w .box)) (w .history) (w .log)) → GoodWorld m h (after-step (step (w .box)) w)
+    by : (x : ℕ) → step (w .box) .answer ≡ x → x ≢ 9
+        → Good m h (step (w .box) .box) (feed single-step x (w .history)) (log-step (w .box) (step (w .box)) (w .history) (w .log))
+        → GoodWorld m h (after-step (step (w .box)) w)
     by x e n g =
         record {
           good = subst (λ (y : ℕ). Good m h (step (w .box) .box) (feed single-step y (w .history)) (log-step (w .box) (step (w .box)) (w .history) (w .log))) (sym e) g;

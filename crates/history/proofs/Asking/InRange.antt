@@ -30,7 +30,8 @@ pub kept-bounds : (b : Box) (g : Ghosts) → Inv b g → (h : ℕ) → Kept b (g
 kept-bounds b g v h k = v .handles .entries h (kept-listed b g h k)
 
 -- a register that names a tuple names an entry
-pub register-bounds : (b : Box) (g : Ghosts) → Inv b g → (r : ℕ) → r < register-count → names-tuple (register r b) ≡ true → (1 ≤ handle-of (register r b)) × (handle-of (register r b) < b .state .h)
+pub register-bounds : (b : Box) (g : Ghosts) → Inv b g → (r : ℕ) → r < register-count → names-tuple (register r b) ≡ true
+    → (1 ≤ handle-of (register r b)) × (handle-of (register r b) < b .state .h)
 register-bounds b g v r l n = kept-bounds b g v (handle-of (register r b)) (v .contents .roots-kept r l n)
 
 -- ---- words

@@ -91,7 +91,8 @@ new-shape b s r n tag =
     })
     s
 
-pub new-box : (b : Box) → Shape b → (r n tag : ℕ) → r < register-count → b .state .free < b .state .h → b .state .top + n + 1 ≤ b .state .m → New b (new-tuple r n tag b) r n tag
+pub new-box : (b : Box) → Shape b → (r n tag : ℕ) → r < register-count → b .state .free < b .state .h → b .state .top + n + 1 ≤ b .state .m
+    → New b (new-tuple r n tag b) r n tag
 unfolding new-tuple take-room new-entry collecting
 new-box b s r n tag l u t =
     record {
@@ -314,7 +315,8 @@ module _ (b : Box) (g : Ghosts) (c : Box) (r n tag : ℕ) (v : Inv b g) (d : b .
               let f = u .register-other s y in
               subst (λ (w : Word). Kept c (made-plan (g .plan) (b .state .free)) (handle-of w)) (sym f) (new-kept-from (handle-of (register s b)) (v .contents .roots-kept s m (subst (λ (w : Word). names-tuple w ≡ true) f x)))
 
-      inside : (h : ℕ) → Kept c (made-plan (g .plan) (b .state .free)) h → (k : ℕ) → k < size-of h c → names-tuple (word h (k + 1) c) ≡ true → Kept c (made-plan (g .plan) (b .state .free)) (handle-of (word h (k + 1) c)) × (deep h c ≡ true)
+      inside : (h : ℕ) → Kept c (made-plan (g .plan) (b .state .free)) h → (k : ℕ) → k < size-of h c → names-tuple (word h (k + 1) c) ≡ true
+          → Kept c (made-plan (g .plan) (b .state .free)) (handle-of (word h (k + 1) c)) × (deep h c ≡ true)
       inside h x k m y = cases (new-kept-to h x)
         where
           cases : Kept b (g .plan) h ⊎ (h ≡ b .state .free) → Kept c (made-plan (g .plan) (b .state .free)) (handle-of (word h (k + 1) c)) × (deep h c ≡ true)
@@ -379,7 +381,9 @@ module _ (b : Box) (g : Ghosts) (c : Box) (r n tag : ℕ) (v : Inv b g) (d : b .
         black = dark;
       }
     where
-      dark : c .state .phase ≤ 3 → (h : ℕ) → Member h (g .plan .ahead ++ (b .state .free ∷ [])) → marked h c ≡ true → ¬ Member h (listed (g .scans)) → (k : ℕ) → k < size-of h c → names-tuple (word h (k + 1) c) ≡ true → marked (handle-of (word h (k + 1) c)) c ≡ true
+      dark : c .state .phase ≤ 3 → (h : ℕ) → Member h (g .plan .ahead ++ (b .state .free ∷ [])) → marked h c ≡ true
+          → ¬ Member h (listed (g .scans)) → (k : ℕ) → k < size-of h c → names-tuple (word h (k + 1) c) ≡ true
+          → marked (handle-of (word h (k + 1) c)) c ≡ true
       dark p h x m o k y z = cases (last-member h (b .state .free) (g .plan .ahead) x)
         where
           pb : b .state .phase ≤ 3
@@ -457,7 +461,8 @@ module _ (b : Box) (g : Ghosts) (c : Box) (r n tag : ℕ) (v : Inv b g) (d : b .
       as-before w (inl q) = inl (mark-stays (handle-of w) q)
       as-before w (inr q) = inr (q ∙ sym (u .tuple-same))
 
-      before : (k : ℕ) → k + 1 < c .state .index → names-tuple (word s (k + 1) c) ≡ true → (marked (handle-of (word s (k + 1) c)) c ≡ true) ⊎ (handle-of (word s (k + 1) c) ≡ c .state .tuple)
+      before : (k : ℕ) → k + 1 < c .state .index → names-tuple (word s (k + 1) c) ≡ true
+          → (marked (handle-of (word s (k + 1) c)) c ≡ true) ⊎ (handle-of (word s (k + 1) c) ≡ c .state .tuple)
       before k n o =
           let q : word s (k + 1) c ≡ word s (k + 1) b = new-scanned (omega arith) s y k n in
           as-before (word s (k + 1) c) (subst (λ (w : Word). (marked (handle-of w) b ≡ true) ⊎ (handle-of w ≡ b .state .tuple)) (sym q) (z k (omega (arith, u .index-same)) (subst (λ (w : Word). names-tuple w ≡ true) q o)))
@@ -502,8 +507,10 @@ module _ (b : Box) (g : Ghosts) (c : Box) (r n tag : ℕ) (v : Inv b g) (d : b .
 
 -- ---- GETM carried out, and a grant
 
-pub invariant-new-tuple : (b : Box) (g : Ghosts) → Inv b g → (r n tag : ℕ) → r < register-count → b .state .free ≢ 0 → b .state .top + n + 1 ≤ b .state .m → In16 tag → Inv (new-tuple r n tag b) (made-ghosts g (b .state .free))
+pub invariant-new-tuple : (b : Box) (g : Ghosts) → Inv b g → (r n tag : ℕ) → r < register-count → b .state .free ≢ 0
+    → b .state .top + n + 1 ≤ b .state .m → In16 tag → Inv (new-tuple r n tag b) (made-ghosts g (b .state .free))
 invariant-new-tuple b g v r n tag l d f t = new-inv b g (new-tuple r n tag b) r n tag v d f t (new-box b (v .shape) r n tag l (free-bounds b g v d .1) f)
 
-pub new-tuple-made : (b : Box) (g : Ghosts) → Inv b g → (r n tag : ℕ) → r < register-count → b .state .free ≢ 0 → b .state .top + n + 1 ≤ b .state .m → In16 tag → Made b (g .plan) (new-tuple r n tag b) (made-plan (g .plan) (b .state .free)) r n tag
+pub new-tuple-made : (b : Box) (g : Ghosts) → Inv b g → (r n tag : ℕ) → r < register-count → b .state .free ≢ 0
+    → b .state .top + n + 1 ≤ b .state .m → In16 tag → Made b (g .plan) (new-tuple r n tag b) (made-plan (g .plan) (b .state .free)) r n tag
 new-tuple-made b g v r n tag l d f t = new-made b g (new-tuple r n tag b) r n tag v d f t (new-box b (v .shape) r n tag l (free-bounds b g v d .1) f)

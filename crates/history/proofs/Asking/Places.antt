@@ -118,7 +118,8 @@ pub data Spot (b : Box) (g : Ghosts) (h i a : ℕ) : Type 0 where
   unmoved-spot : Move b g → h ≡ b .state .tuple → a ≡ b .state .src + i → b .state .index ≤ i → i ≤ b .state .size → g .zeroed ≤ a → Spot b g h i a
 
 -- one word of laid tuples at one address
-laid-same : (b : Box) (s : ℕ) (hs : List ℕ) (e : ℕ) → Laid b s hs e → (h i k j a : ℕ) → Member h hs → Member k hs → a ≡ address h b + i → i ≤ size-of h b → a ≡ address k b + j → j ≤ size-of k b → (h ≡ k) × (i ≡ j)
+laid-same : (b : Box) (s : ℕ) (hs : List ℕ) (e : ℕ) → Laid b s hs e → (h i k j a : ℕ) → Member h hs → Member k hs → a ≡ address h b + i
+    → i ≤ size-of h b → a ≡ address k b + j → j ≤ size-of k b → (h ≡ k) × (i ≡ j)
 laid-same b s hs e l h i k j a x y p u q v = cases (ℕ-discrete h k)
   where
     cross : (address h b + size-of h b + 1 ≤ address k b) ⊎ (address k b + size-of k b + 1 ≤ address h b) → ⊥
@@ -200,17 +201,22 @@ find-mid b g v h i x l = cases (motion b g (v .stage))
         let a : address h b ≡ b .state .src = ap (λ (n : ℕ). address n b) e ∙ m .src-is in
         in-words (b .state .src + i) (p ∙ ap (λ (n : ℕ). at (n + i)) a) (unmoved-spot m e refl t (index-fits m e) z)
 
-    at-index : (m : Move b g) → h ≡ b .state .tuple → 5 ≤ b .state .phase → b .state .phase ≤ 7 → i ≡ b .state .index → (b .state .phase ≤ 5 → g .zeroed ≤ b .state .src + b .state .index) → Dec (b .state .phase ≤ 5) → Found b g h i
+    at-index : (m : Move b g) → h ≡ b .state .tuple → 5 ≤ b .state .phase → b .state .phase ≤ 7 → i ≡ b .state .index
+        → (b .state .phase ≤ 5 → g .zeroed ≤ b .state .src + b .state .index) → Dec (b .state .phase ≤ 5) → Found b g h i
     at-index m e p q t f (yes r) =
         let z = f r in
         unmoved m e (place-unread h i b r (omega arith)) (omega arith) (omega arith)
     at-index m e p q t f (no r) = in-copy (place-copied h i b e (omega arith) q t) e t
 
-    behind : (m : Move b g) → h ≡ b .state .tuple → 5 ≤ b .state .phase → b .state .phase ≤ 7 → g .zeroed ≤ b .state .src + b .state .index + 1 → (b .state .phase ≤ 5 → g .zeroed ≤ b .state .src + b .state .index) → b .state .index ≤ i → Dec (i ≡ b .state .index) → Found b g h i
+    behind : (m : Move b g) → h ≡ b .state .tuple → 5 ≤ b .state .phase → b .state .phase ≤ 7
+        → g .zeroed ≤ b .state .src + b .state .index + 1 → (b .state .phase ≤ 5 → g .zeroed ≤ b .state .src + b .state .index)
+        → b .state .index ≤ i → Dec (i ≡ b .state .index) → Found b g h i
     behind m e p q z f t (yes d) = at-index m e p q d f (decLe (b .state .phase) 5)
     behind m e p q z f t (no n) = unmoved m e (place-unmoved h i b (omega arith)) t (omega arith)
 
-    by-index : (m : Move b g) → h ≡ b .state .tuple → 5 ≤ b .state .phase → b .state .phase ≤ 7 → g .zeroed ≤ b .state .src + b .state .index + 1 → (b .state .phase ≤ 5 → g .zeroed ≤ b .state .src + b .state .index) → Dec (i < b .state .index) → Found b g h i
+    by-index : (m : Move b g) → h ≡ b .state .tuple → 5 ≤ b .state .phase → b .state .phase ≤ 7
+        → g .zeroed ≤ b .state .src + b .state .index + 1 → (b .state .phase ≤ 5 → g .zeroed ≤ b .state .src + b .state .index)
+        → Dec (i < b .state .index) → Found b g h i
     by-index m e p q z f (yes t) = in-words (b .state .dest + i) (place-moved h i b e p q t) (moved-spot m e refl t (index-fits m e))
     by-index m e p q z f (no n) = behind m e p q z f (omega arith) (ℕ-discrete i (b .state .index))
 
@@ -244,7 +250,8 @@ spot-uncleared b g v h i a (unmoved-spot m e p l u z) q r = omega arith
 -- ---- what keeps a kept tuple's word
 
 -- the place goes by these numbers, and by the tuple's address
-pub place-by : (h i : ℕ) (b c : Box) → c .state .phase ≡ b .state .phase → c .state .tuple ≡ b .state .tuple → c .state .index ≡ b .state .index → c .state .dest ≡ b .state .dest → address h c ≡ address h b → place h i c ≡ place h i b
+pub place-by : (h i : ℕ) (b c : Box) → c .state .phase ≡ b .state .phase → c .state .tuple ≡ b .state .tuple
+    → c .state .index ≡ b .state .index → c .state .dest ≡ b .state .dest → address h c ≡ address h b → place h i c ≡ place h i b
 unfolding place being-moved
 place-by h i b c p t x d a =
     λ j.
@@ -252,7 +259,8 @@ place-by h i b c p t x d a =
     (cond (eqb h (t j) && leb 5 (p j) && leb (p j) 7 && ltb i (x j)) (at (d j + i)) (at (a j + i)))
 
 -- its place, and what is there
-pub word-by : (b : Box) (g : Ghosts) (c : Box) → Inv b g → (h i : ℕ) → Kept b (g .plan) h → i ≤ size-of h b → place h i c ≡ place h i b → copy-register c ≡ copy-register b → ((a : ℕ) → Spot b g h i a → word-at a c ≡ word-at a b) → word h i c ≡ word h i b
+pub word-by : (b : Box) (g : Ghosts) (c : Box) → Inv b g → (h i : ℕ) → Kept b (g .plan) h → i ≤ size-of h b → place h i c ≡ place h i b
+    → copy-register c ≡ copy-register b → ((a : ℕ) → Spot b g h i a → word-at a c ≡ word-at a b) → word h i c ≡ word h i b
 unfolding word read
 word-by b g c v h i k l p r w = ap (λ (q : Place). read q c) p ∙ cases (find b g v h i k l)
   where

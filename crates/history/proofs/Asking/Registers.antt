@@ -110,13 +110,15 @@ put-shape r w b s =
     })
     s
 
-put-contents : (b : Box) (g : Ghosts) → Inv b g → (r : ℕ) (w : Word) → r < register-count → (names-tuple w ≡ true → Kept b (g .plan) (handle-of w)) → Contents (put-register r w b) (g .plan)
+put-contents : (b : Box) (g : Ghosts) → Inv b g → (r : ℕ) (w : Word) → r < register-count
+    → (names-tuple w ≡ true → Kept b (g .plan) (handle-of w)) → Contents (put-register r w b) (g .plan)
 put-contents b g v r w l k = record { roots-kept = roots; words-kept = inside }
   where
     t : Put b (g .plan) (put-register r w b) r w
     t = register-put b g v r w l
 
-    roots : (s : ℕ) → s < register-count → names-tuple (register s (put-register r w b)) ≡ true → Kept (put-register r w b) (g .plan) (handle-of (register s (put-register r w b)))
+    roots : (s : ℕ) → s < register-count → names-tuple (register s (put-register r w b)) ≡ true
+        → Kept (put-register r w b) (g .plan) (handle-of (register s (put-register r w b)))
     roots s u n = cases (ℕ-discrete s r)
       where
         cases : Dec (s ≡ r) → Kept (put-register r w b) (g .plan) (handle-of (register s (put-register r w b)))
@@ -127,13 +129,16 @@ put-contents b g v r w l k = record { roots-kept = roots; words-kept = inside }
             let f : register s (put-register r w b) ≡ register s b = t .registers-same s d in
             subst (λ (x : Word). Kept (put-register r w b) (g .plan) (handle-of x)) (sym f) (t .kept-from (handle-of (register s b)) (v .contents .roots-kept s u (subst (λ (x : Word). names-tuple x ≡ true) f n)))
 
-    inside : (h : ℕ) → Kept (put-register r w b) (g .plan) h → (i : ℕ) → i < size-of h (put-register r w b) → names-tuple (word h (i + 1) (put-register r w b)) ≡ true → Kept (put-register r w b) (g .plan) (handle-of (word h (i + 1) (put-register r w b))) × (deep h (put-register r w b) ≡ true)
+    inside : (h : ℕ) → Kept (put-register r w b) (g .plan) h → (i : ℕ) → i < size-of h (put-register r w b)
+        → names-tuple (word h (i + 1) (put-register r w b)) ≡ true
+        → Kept (put-register r w b) (g .plan) (handle-of (word h (i + 1) (put-register r w b))) × (deep h (put-register r w b) ≡ true)
     inside h x i u n =
         let e : word h (i + 1) (put-register r w b) ≡ word h (i + 1) b = put-word r w b h (i + 1) in
         let f = v .contents .words-kept h (t .kept-to h x) i u (subst (λ (z : Word). names-tuple z ≡ true) e n) in
         (subst (λ (z : Word). Kept (put-register r w b) (g .plan) (handle-of z)) (sym e) (t .kept-from (handle-of (word h (i + 1) b)) (f .0)), f .1)
 
-pub register-takes : (b : Box) (g : Ghosts) → Inv b g → (r : ℕ) (w : Word) → r < register-count → (names-tuple w ≡ true → Kept b (g .plan) (handle-of w)) → Inv (put-register r w b) g
+pub register-takes : (b : Box) (g : Ghosts) → Inv b g → (r : ℕ) (w : Word) → r < register-count
+    → (names-tuple w ≡ true → Kept b (g .plan) (handle-of w)) → Inv (put-register r w b) g
 register-takes b g v r w l k =
     steady-inv b (put-register r w b) g (put-steady r w b)
     (record { controls-same = λ h x. put-word r w b h 0; words-safe = λ h x i u. inl (put-word r w b h (i + 1)); deeps-stay = λ h e. e })
@@ -158,17 +163,21 @@ pub register-takes-register : (b : Box) (g : Ghosts) → Inv b g → (r s : ℕ)
 register-takes-register b g v r s l u = register-takes b g v r (register s b) l (v .contents .roots-kept s u)
 
 -- ADVANCE: the same handle
-pub register-advances : (b : Box) (g : Ghosts) → Inv b g → (r n : ℕ) → r < register-count → register r b .flag ≡ true → offset-of (register r b) + n < half-word → Inv (put-register r (pointer (handle-of (register r b)) (offset-of (register r b) + n)) b) g
+pub register-advances : (b : Box) (g : Ghosts) → Inv b g → (r n : ℕ) → r < register-count → register r b .flag ≡ true
+    → offset-of (register r b) + n < half-word
+    → Inv (put-register r (pointer (handle-of (register r b)) (offset-of (register r b) + n)) b) g
 register-advances b g v r n l f u = register-takes b g v r (pointer (handle-of (register r b)) (offset-of (register r b) + n)) l kept
   where
     same : handle-of (pointer (handle-of (register r b)) (offset-of (register r b) + n)) ≡ handle-of (register r b)
     same = pointer-handle (handle-of (register r b)) (offset-of (register r b) + n) u
 
-    kept : names-tuple (pointer (handle-of (register r b)) (offset-of (register r b) + n)) ≡ true → Kept b (g .plan) (handle-of (pointer (handle-of (register r b)) (offset-of (register r b) + n)))
+    kept : names-tuple (pointer (handle-of (register r b)) (offset-of (register r b) + n)) ≡ true
+        → Kept b (g .plan) (handle-of (pointer (handle-of (register r b)) (offset-of (register r b) + n)))
     kept t = subst (λ (h : ℕ). Kept b (g .plan) h) (sym same) (v .contents .roots-kept r l (sym (names-alike (pointer (handle-of (register r b)) (offset-of (register r b) + n)) (register r b) (sym f) same) ∙ t))
 
 -- LOAD: a word of a kept tuple
-pub register-loads : (b : Box) (g : Ghosts) → Inv b g → (r h n : ℕ) → r < register-count → Kept b (g .plan) h → n < size-of h b → Inv (put-register r (read (place h (n + 1) b) b) b) g
+pub register-loads : (b : Box) (g : Ghosts) → Inv b g → (r h n : ℕ) → r < register-count → Kept b (g .plan) h → n < size-of h b
+    → Inv (put-register r (read (place h (n + 1) b) b) b) g
 unfolding word
 register-loads b g v r h n l k u = register-takes b g v r (word h (n + 1) b) l (λ t. v .contents .words-kept h k n u t .0)
 

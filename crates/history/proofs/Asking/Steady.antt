@@ -77,7 +77,8 @@ steady-marks b c p free s t w v =
     sums : rooms b (p .mid) + marked-rooms b (p .ahead) ≡ rooms c (p .mid) + marked-rooms c (p .ahead)
     sums = sym (ap₂ (λ (x y : ℕ). x + y) (rooms-frame b c (p .mid) (λ h x. t .size-same h)) (marked-rooms-frame b c (p .ahead) (λ h x. t .size-same h) (λ h x. t .marked-same h)))
 
-    dark : c .state .phase ≤ 3 → (h : ℕ) → Member h (p .ahead) → marked h c ≡ true → ¬ Member h (listed s) → (k : ℕ) → k < size-of h c → names-tuple (word h (k + 1) c) ≡ true → marked (handle-of (word h (k + 1) c)) c ≡ true
+    dark : c .state .phase ≤ 3 → (h : ℕ) → Member h (p .ahead) → marked h c ≡ true → ¬ Member h (listed s) → (k : ℕ) → k < size-of h c
+        → names-tuple (word h (k + 1) c) ≡ true → marked (handle-of (word h (k + 1) c)) c ≡ true
     dark l h x m o k u n = t .marked-same (handle-of (word h (k + 1) c)) ∙ cases (w .words-safe h (unswept x lb) k ub)
       where
         lb : b .state .phase ≤ 3
@@ -138,7 +139,8 @@ steady-stage b c g t w v (scanning e u s y z) = scanning (t .phase-same ∙ e) u
         cases (inr f) = f (omega arith) (v .listed-marked s (gray-listed (g .scans) s (y .gray-is))) n
 steady-stage b c g t w v (adding e u s y m z) = adding (t .phase-same ∙ e) u s (steady-scan b c g s t y) (subst (λ (k : ℕ). Member k (g .plan .ahead)) (sym (t .tuple-same)) m) before
   where
-    before : (k : ℕ) → k + 1 < c .state .index → names-tuple (word s (k + 1) c) ≡ true → (marked (handle-of (word s (k + 1) c)) c ≡ true) ⊎ (handle-of (word s (k + 1) c) ≡ c .state .tuple)
+    before : (k : ℕ) → k + 1 < c .state .index → names-tuple (word s (k + 1) c) ≡ true
+        → (marked (handle-of (word s (k + 1) c)) c ≡ true) ⊎ (handle-of (word s (k + 1) c) ≡ c .state .tuple)
     before k l n = cases (w .words-safe s (unswept (v .listed-ahead s (gray-listed (g .scans) s (y .gray-is))) (omega arith)) k (omega (arith, t .index-same)))
       where
         as-before : (x : Word) → (marked (handle-of x) b ≡ true) ⊎ (handle-of x ≡ b .state .tuple) → (marked (handle-of x) c ≡ true) ⊎ (handle-of x ≡ c .state .tuple)
@@ -158,7 +160,8 @@ steady-stage b c g t w v (zeroing e u n l a d i z) =
 
 -- ---- the whole
 
-pub steady-inv : (b c : Box) (g : Ghosts) → Steady b c → Rewords b (g .plan) c → Shape c → Layout c (g .plan) → Contents c (g .plan) → Zero c (g .zeroed) → Inv b g → Inv c g
+pub steady-inv : (b c : Box) (g : Ghosts) → Steady b c → Rewords b (g .plan) c → Shape c → Layout c (g .plan) → Contents c (g .plan)
+    → Zero c (g .zeroed) → Inv b g → Inv c g
 steady-inv b c g t w sh la co ze v =
     record {
       shape = sh;

@@ -29,8 +29,10 @@ pub record Shades (w : Word) (b : Box) : Type 0 where
 
 -- ---- a change after one that leaves registers, sizes and words alone
 
-stored-after : (b : Box) (p : Plan) (c : Box) (q : Plan) (e : Box) (r : Plan) (h n : ℕ) (w : Word) → ((k : ℕ) → Kept c q k → Kept b p k) → ((k : ℕ) → Kept b p k → Kept c q k) → ((x : ℕ) → register x c ≡ register x b)
-    → c .state .h ≡ b .state .h → ((k : ℕ) → Kept b p k → size-of k c ≡ size-of k b) → ((k : ℕ) → Kept b p k → (i : ℕ) → i ≤ size-of k b → word k i c ≡ word k i b) → Stored c q e r h n w → Stored b p e r h n w
+stored-after : (b : Box) (p : Plan) (c : Box) (q : Plan) (e : Box) (r : Plan) (h n : ℕ) (w : Word) → ((k : ℕ) → Kept c q k → Kept b p k)
+    → ((k : ℕ) → Kept b p k → Kept c q k) → ((x : ℕ) → register x c ≡ register x b)
+    → c .state .h ≡ b .state .h → ((k : ℕ) → Kept b p k → size-of k c ≡ size-of k b)
+    → ((k : ℕ) → Kept b p k → (i : ℕ) → i ≤ size-of k b → word k i c ≡ word k i b) → Stored c q e r h n w → Stored b p e r h n w
 stored-after b p c q e r h n w to from roots entries sizes words s =
     record {
       kept-to = λ k x. to k (s .kept-to k x);
@@ -44,14 +46,17 @@ stored-after b p c q e r h n w to from roots entries sizes words s =
 
 -- ---- a pointer is written into a tuple made deep
 
-deep-write-inv : (b : Box) (g : Ghosts) → Inv b g → (h n : ℕ) → Kept b (g .plan) h → n < size-of h b → (w : Word) → Kept b (g .plan) (handle-of w) → (b .state .phase ≤ 3 → marked h b ≡ true → marked (handle-of w) b ≡ true) → Inv (write (place h (n + 1) b) w (set-deep h true b)) g
+deep-write-inv : (b : Box) (g : Ghosts) → Inv b g → (h n : ℕ) → Kept b (g .plan) h → n < size-of h b → (w : Word)
+    → Kept b (g .plan) (handle-of w) → (b .state .phase ≤ 3 → marked h b ≡ true → marked (handle-of w) b ≡ true)
+    → Inv (write (place h (n + 1) b) w (set-deep h true b)) g
 deep-write-inv b g v h n k l w t f =
     subst (λ (p : Place). Inv (write p w (set-deep h true b)) g) (deepen-place h b h (n + 1))
     (written-inv (set-deep h true b) g (deepen-inv b g v h (kept-bounds b g v h k .1)) h n (steady-kept-from b (set-deep h true b) (g .plan) (deepen-steady h b) h k) l w
     (λ e. (steady-kept-from b (set-deep h true b) (g .plan) (deepen-steady h b) (handle-of w) t, deepen-deep h b (v .shape) (kept-bounds b g v h k .1)))
     (λ p m e. f p m))
 
-deep-write-stored : (b : Box) (g : Ghosts) → Inv b g → (h n : ℕ) → Kept b (g .plan) h → n < size-of h b → (w : Word) → Stored b (g .plan) (write (place h (n + 1) b) w (set-deep h true b)) (g .plan) h n w
+deep-write-stored : (b : Box) (g : Ghosts) → Inv b g → (h n : ℕ) → Kept b (g .plan) h → n < size-of h b → (w : Word)
+    → Stored b (g .plan) (write (place h (n + 1) b) w (set-deep h true b)) (g .plan) h n w
 deep-write-stored b g v h n k l w =
     stored-after b (g .plan) (set-deep h true b) (g .plan) (write (place h (n + 1) b) w (set-deep h true b)) (g .plan) h n w
     (steady-kept-to b (set-deep h true b) (g .plan) (deepen-steady h b))
@@ -128,8 +133,10 @@ module _ (b : Box) (g : Ghosts) (v : Inv b g) (h n : ℕ) (k : Kept b (g .plan) 
   deep-stored = deep-write-stored b g v h n k l w
 
   -- a pointer while a cycle marks, to a tuple shaded first
-  pub stores-shaded : Kept b (g .plan) (handle-of w) → Shades w b → Inv (write (place h (n + 1) b) w (set-deep h true (shade (handle-of w) b))) (with-scans (shade-scans (handle-of w) b (g .scans)) g)
+  pub stores-shaded : Kept b (g .plan) (handle-of w) → Shades w b
+      → Inv (write (place h (n + 1) b) w (set-deep h true (shade (handle-of w) b))) (with-scans (shade-scans (handle-of w) b (g .scans)) g)
   stores-shaded = shaded-write-inv b g v h n k l w
 
-  pub shaded-stored : Kept b (g .plan) (handle-of w) → Shades w b → Stored b (g .plan) (write (place h (n + 1) b) w (set-deep h true (shade (handle-of w) b))) (g .plan) h n w
+  pub shaded-stored : Kept b (g .plan) (handle-of w) → Shades w b
+      → Stored b (g .plan) (write (place h (n + 1) b) w (set-deep h true (shade (handle-of w) b))) (g .plan) h n w
   shaded-stored = shaded-write-stored b g v h n k l w

@@ -91,7 +91,9 @@ deepen-contents h b p s l v = record { roots-kept = λ r u n. from (handle-of (r
     from : (k : ℕ) → Kept b p k → Kept (set-deep h true b) p k
     from = steady-kept-from b (set-deep h true b) p (deepen-steady h b)
 
-    inside : (k : ℕ) → Kept (set-deep h true b) p k → (i : ℕ) → i < size-of k (set-deep h true b) → names-tuple (word k (i + 1) (set-deep h true b)) ≡ true → Kept (set-deep h true b) p (handle-of (word k (i + 1) (set-deep h true b))) × (deep k (set-deep h true b) ≡ true)
+    inside : (k : ℕ) → Kept (set-deep h true b) p k → (i : ℕ) → i < size-of k (set-deep h true b)
+        → names-tuple (word k (i + 1) (set-deep h true b)) ≡ true
+        → Kept (set-deep h true b) p (handle-of (word k (i + 1) (set-deep h true b))) × (deep k (set-deep h true b) ≡ true)
     inside k x i u n =
         let e : word k (i + 1) (set-deep h true b) ≡ word k (i + 1) b = deepen-word h b k (i + 1) in
         let f = v .words-kept k (steady-kept-to b (set-deep h true b) p (deepen-steady h b) k x) i u (subst (λ (z : Word). names-tuple z ≡ true) e n) in
@@ -230,7 +232,8 @@ copy-not-at a e = let z : _≡_ {A = ℕ} 0 1 = cc in omega arith
 at-same : (a x : ℕ) → at a ≡ at x → a ≡ x
 at-same a x e = cc
 
-pub place-once : (b : Box) (g : Ghosts) → Inv b g → (h i k j : ℕ) → Kept b (g .plan) h → i ≤ size-of h b → Kept b (g .plan) k → j ≤ size-of k b → place h i b ≡ place k j b → (h ≡ k) × (i ≡ j)
+pub place-once : (b : Box) (g : Ghosts) → Inv b g → (h i k j : ℕ) → Kept b (g .plan) h → i ≤ size-of h b → Kept b (g .plan) k
+    → j ≤ size-of k b → place h i b ≡ place k j b → (h ≡ k) × (i ≡ j)
 place-once b g v h i k j x l y u q = cases (find b g v h i x l) (find b g v k j y u)
   where
     cases : Found b g h i → Found b g k j → (h ≡ k) × (i ≡ j)
@@ -356,12 +359,15 @@ module _ (b : Box) (g : Ghosts) (v : Inv b g) (h n : ℕ) (kept : Kept b (g .pla
       from : (k : ℕ) → Kept b (g .plan) k → Kept (write (place h (n + 1) b) w b) (g .plan) k
       from = written-stored .kept-from
 
-      roots : (r : ℕ) → r < register-count → names-tuple (register r (write (place h (n + 1) b) w b)) ≡ true → Kept (write (place h (n + 1) b) w b) (g .plan) (handle-of (register r (write (place h (n + 1) b) w b)))
+      roots : (r : ℕ) → r < register-count → names-tuple (register r (write (place h (n + 1) b) w b)) ≡ true
+          → Kept (write (place h (n + 1) b) w b) (g .plan) (handle-of (register r (write (place h (n + 1) b) w b)))
       roots r u t =
           let e = write-register (place h (n + 1) b) w b r in
           subst (λ (z : Word). Kept (write (place h (n + 1) b) w b) (g .plan) (handle-of z)) (sym e) (from (handle-of (register r b)) (v .contents .roots-kept r u (subst (λ (z : Word). names-tuple z ≡ true) e t)))
 
-      inside : (k : ℕ) → Kept (write (place h (n + 1) b) w b) (g .plan) k → (i : ℕ) → i < size-of k (write (place h (n + 1) b) w b) → names-tuple (word k (i + 1) (write (place h (n + 1) b) w b)) ≡ true → Kept (write (place h (n + 1) b) w b) (g .plan) (handle-of (word k (i + 1) (write (place h (n + 1) b) w b))) × (deep k (write (place h (n + 1) b) w b) ≡ true)
+      inside : (k : ℕ) → Kept (write (place h (n + 1) b) w b) (g .plan) k → (i : ℕ) → i < size-of k (write (place h (n + 1) b) w b)
+          → names-tuple (word k (i + 1) (write (place h (n + 1) b) w b)) ≡ true
+          → Kept (write (place h (n + 1) b) w b) (g .plan) (handle-of (word k (i + 1) (write (place h (n + 1) b) w b))) × (deep k (write (place h (n + 1) b) w b) ≡ true)
       inside k x i u t = cases (which k i)
         where
           y : Kept b (g .plan) k
@@ -370,7 +376,8 @@ module _ (b : Box) (g : Ghosts) (v : Inv b g) (h n : ℕ) (kept : Kept b (g .pla
           z : i < size-of k b
           z = subst (λ (m : ℕ). i < m) (written-stored .sizes-same k y) u
 
-          cases : ((k ≡ h) × (i ≡ n)) ⊎ ((k ≢ h) ⊎ (i + 1 ≢ n + 1)) → Kept (write (place h (n + 1) b) w b) (g .plan) (handle-of (word k (i + 1) (write (place h (n + 1) b) w b))) × (deep k (write (place h (n + 1) b) w b) ≡ true)
+          cases : ((k ≡ h) × (i ≡ n)) ⊎ ((k ≢ h) ⊎ (i + 1 ≢ n + 1))
+              → Kept (write (place h (n + 1) b) w b) (g .plan) (handle-of (word k (i + 1) (write (place h (n + 1) b) w b))) × (deep k (write (place h (n + 1) b) w b) ≡ true)
           cases (inl e) =
               let q = written-there k i e in
               let o = f (subst (λ (x : Word). names-tuple x ≡ true) q t) in
@@ -397,5 +404,7 @@ module _ (b : Box) (g : Ghosts) (v : Inv b g) (h n : ℕ) (kept : Kept b (g .pla
               inr (λ p m t. subst (λ (z : Word). marked (handle-of z) b ≡ true) (sym q) (f p (subst (λ (z : ℕ). marked z b ≡ true) (e .0) m) (subst (λ (z : Word). names-tuple z ≡ true) q t)))
           cases (inr d) = inl (written-other k x (i + 1) (omega arith) d)
 
-  pub written-inv : (names-tuple w ≡ true → Kept b (g .plan) (handle-of w) × (deep h b ≡ true)) → (b .state .phase ≤ 3 → marked h b ≡ true → names-tuple w ≡ true → marked (handle-of w) b ≡ true) → Inv (write (place h (n + 1) b) w b) g
+  pub written-inv : (names-tuple w ≡ true → Kept b (g .plan) (handle-of w) × (deep h b ≡ true))
+      → (b .state .phase ≤ 3 → marked h b ≡ true → names-tuple w ≡ true → marked (handle-of w) b ≡ true)
+      → Inv (write (place h (n + 1) b) w b) g
   written-inv f e = steady-inv b (write (place h (n + 1) b) w b) g (write-steady (place h (n + 1) b) w b) (written-rewords e) (write-shape (place h (n + 1) b) w b (v .shape)) written-layout (written-contents f) written-zero v

@@ -26,7 +26,8 @@ module _ (b : Box) (g : Ghosts) (m : History) (given : List ℕ) (number : ℕ �
       subst (λ (y : ℕ). (1 ≤ y) × (y ≤ made m)) (k .numbered) (s .kept-hold (k .handle) (k .kept) .number-made)
 
   module _ (e : b .state .phase ≡ 0) where
-    pub granted-justly : (n : ℕ) → b .state .free ≢ 0 → b .state .top + n + 1 ≤ b .state .m → (w : Pending) → w .history-then ≡ m → w .asked .size ≡ n → JustlyAnswered (b .state .m) (b .state .h) (record { hold = w; answer = 32 })
+    pub granted-justly : (n : ℕ) → b .state .free ≢ 0 → b .state .top + n + 1 ≤ b .state .m → (w : Pending) → w .history-then ≡ m
+        → w .asked .size ≡ n → JustlyAnswered (b .state .m) (b .state .h) (record { hold = w; answer = 32 })
     granted-justly n f t w q r =
         let is : (ys : List ℕ) × Lists (Reachable m) ys = reachable-list m reachable-made in
         let y : Fits (b .state .m) (b .state .h) (is .0) n m = fits-if-room b g m given number v s e (is .0) (is .1) n f t in
@@ -51,7 +52,9 @@ module _ (b : Box) (g : Ghosts) (m : History) (given : List ℕ) (number : ℕ �
         go j u (reachable-then y) = y
         go j u (made-since y) = absurd (omega arith)
 
-    pub dropped-justly : ((h : ℕ) → Kept b (g .plan) h → Spared m (number h)) → (n : ℕ) → (b .state .free ≡ 0) ⊎ (b .state .m < b .state .top + n + 1) → (w : Pending) → w .history-then ≡ m → w .asked .size ≡ n → JustlyAnswered (b .state .m) (b .state .h) (record { hold = w; answer = 8 })
+    pub dropped-justly : ((h : ℕ) → Kept b (g .plan) h → Spared m (number h)) → (n : ℕ)
+        → (b .state .free ≡ 0) ⊎ (b .state .m < b .state .top + n + 1) → (w : Pending) → w .history-then ≡ m → w .asked .size ≡ n
+        → JustlyAnswered (b .state .m) (b .state .h) (record { hold = w; answer = 8 })
     dropped-justly f n o w q r =
         let is : (ys : List ℕ) × Lists (Reachable m) ys = reachable-list m reachable-made in
         let y : ¬ Fits (b .state .m) (b .state .h) (is .0) n m = no-fit b g m given number v s e (is .0) (is .1) (only-reachable f) n o in

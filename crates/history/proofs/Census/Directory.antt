@@ -215,7 +215,8 @@ module _ (b : Box) (g : Ghosts) (m : History) (given : List ℕ) (number : ℕ �
       record { words-fit = omega arith; handles-fit = omega arith }
 
   -- where the directory has the reachable tuples only, no room means that they don't fit
-  pub no-fit : (is : List ℕ) → Lists (Reachable m) is → ((i : ℕ) → Member i alive → Reachable m i) → (n : ℕ) → (b .state .free ≡ 0) ⊎ (b .state .m < b .state .top + n + 1) → ¬ Fits (b .state .m) (b .state .h) is n m
+  pub no-fit : (is : List ℕ) → Lists (Reachable m) is → ((i : ℕ) → Member i alive → Reachable m i) → (n : ℕ)
+      → (b .state .free ≡ 0) ⊎ (b .state .m < b .state .top + n + 1) → ¬ Fits (b .state .m) (b .state .h) is n m
   unfolding alive
   no-fit is l a n r f = go r
     where
@@ -236,7 +237,8 @@ module _ (b : Box) (g : Ghosts) (m : History) (given : List ℕ) (number : ℕ �
           let u : room is m + (n + 1) ≤ b .state .m = f .words-fit in
           omega arith
 
-pub rest-sum : (w : World) (g : Ghosts) (number : ℕ → ℕ) → Inv (w .box) g → Related (w .box) (g .plan) (w .history) (w .log .given) number → w .box .state .phase ≡ 0 → RestSum w
+pub rest-sum : (w : World) (g : Ghosts) (number : ℕ → ℕ) → Inv (w .box) g → Related (w .box) (g .plan) (w .history) (w .log .given) number
+    → w .box .state .phase ≡ 0 → RestSum w
 rest-sum w g number v s e =
     record {
       all-made = upto (made (w .history));

@@ -75,11 +75,15 @@ module _ (m : History) where
   words-inside? xs [] = inl (λ i x. absurd x)
   words-inside? xs (y ∷ ys) = go (all-inside? xs (λ k. word-of y k m) (size-at y m)) (words-inside? xs ys)
     where
-      both : ((k : ℕ) → k < size-at y m → Inside xs (word-of y k m)) → ((i : ℕ) → Member i ys → (k : ℕ) → k < size-at i m → Inside xs (word-of i k m)) → (i : ℕ) → (i ≡ y) ⊎ Member i ys → (k : ℕ) → k < size-at i m → Inside xs (word-of i k m)
+      both : ((k : ℕ) → k < size-at y m → Inside xs (word-of y k m))
+          → ((i : ℕ) → Member i ys → (k : ℕ) → k < size-at i m → Inside xs (word-of i k m)) → (i : ℕ) → (i ≡ y) ⊎ Member i ys → (k : ℕ)
+          → k < size-at i m → Inside xs (word-of i k m)
       both f g i (inl e) = subst (λ (x : ℕ). (k : ℕ) → k < size-at x m → Inside xs (word-of x k m)) (sym e) f
       both f g i (inr x) = g i x
 
-      go : ((k : ℕ) → k < size-at y m → Inside xs (word-of y k m)) ⊎ Leak xs (λ k. word-of y k m) (size-at y m) → ((i : ℕ) → Member i ys → (k : ℕ) → k < size-at i m → Inside xs (word-of i k m)) ⊎ Hole xs ys → ((i : ℕ) → (i ≡ y) ⊎ Member i ys → (k : ℕ) → k < size-at i m → Inside xs (word-of i k m)) ⊎ Hole xs (y ∷ ys)
+      go : ((k : ℕ) → k < size-at y m → Inside xs (word-of y k m)) ⊎ Leak xs (λ k. word-of y k m) (size-at y m)
+          → ((i : ℕ) → Member i ys → (k : ℕ) → k < size-at i m → Inside xs (word-of i k m)) ⊎ Hole xs ys
+          → ((i : ℕ) → (i ≡ y) ⊎ Member i ys → (k : ℕ) → k < size-at i m → Inside xs (word-of i k m)) ⊎ Hole xs (y ∷ ys)
       go (inr w) r = inr (record { tuple = y; member = inl refl; leak = w })
       go (inl f) (inl g) = inl (both f g)
       go (inl f) (inr w) = inr (record { tuple = w .tuple; member = inr (w .member); leak = w .leak })
@@ -90,14 +94,17 @@ module _ (m : History) where
     reach : Reachable m one
     new : ¬ Member one xs
 
-  complete : (xs : List ℕ) → ((r : ℕ) → r < register-count → Inside xs (register-of r m)) → ((i : ℕ) → Member i xs → (k : ℕ) → k < size-at i m → Inside xs (word-of i k m)) → (n : ℕ) → Reachable m n → Member n xs
+  complete : (xs : List ℕ) → ((r : ℕ) → r < register-count → Inside xs (register-of r m))
+      → ((i : ℕ) → Member i xs → (k : ℕ) → k < size-at i m → Inside xs (word-of i k m)) → (n : ℕ) → Reachable m n → Member n xs
   complete xs f g n (by-register r i o l e z) = f r l i o e z
   complete xs f g n (by-word i k j o x l e z) = g i (complete xs f g i x) k l j o e z
 
   grow? : (xs : List ℕ) → ((i : ℕ) → Member i xs → Reachable m i) → ((n : ℕ) → Reachable m n → Member n xs) ⊎ More xs
   grow? xs s = go (all-inside? xs (λ r. register-of r m) register-count) (words-inside? xs xs)
     where
-      go : ((r : ℕ) → r < register-count → Inside xs (register-of r m)) ⊎ Leak xs (λ r. register-of r m) register-count → ((i : ℕ) → Member i xs → (k : ℕ) → k < size-at i m → Inside xs (word-of i k m)) ⊎ Hole xs xs → ((n : ℕ) → Reachable m n → Member n xs) ⊎ More xs
+      go : ((r : ℕ) → r < register-count → Inside xs (register-of r m)) ⊎ Leak xs (λ r. register-of r m) register-count
+          → ((i : ℕ) → Member i xs → (k : ℕ) → k < size-at i m → Inside xs (word-of i k m)) ⊎ Hole xs xs
+          → ((n : ℕ) → Reachable m n → Member n xs) ⊎ More xs
       go (inl f) (inl g) = inl (complete xs f g)
       go (inl f) (inr w) = inr (record {
         one = w .leak .out .number;
@@ -110,7 +117,8 @@ module _ (m : History) where
         new = w .out .not-in;
       })
 
-  grow : ((n : ℕ) → Reachable m n → (1 ≤ n) × (n ≤ made m)) → (fuel : ℕ) (xs : List ℕ) → Distinct xs → ((i : ℕ) → Member i xs → Reachable m i) → made m < fuel + length xs → (ys : List ℕ) × Lists (Reachable m) ys
+  grow : ((n : ℕ) → Reachable m n → (1 ≤ n) × (n ≤ made m)) → (fuel : ℕ) (xs : List ℕ) → Distinct xs
+      → ((i : ℕ) → Member i xs → Reachable m i) → made m < fuel + length xs → (ys : List ℕ) × Lists (Reachable m) ys
   grow f zero xs d s l =
       let u : length xs ≤ made m = pigeonhole (made m) xs d (λ x y. f x (s x y)) in
       absurd (omega arith)

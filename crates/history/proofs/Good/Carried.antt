@@ -96,7 +96,8 @@ pub record Stays (b c : Box) : Type 0 where
   pub held-same : c .state .held ≡ b .state .held
   pub phase-same : c .state .phase ≡ b .state .phase
 
-pub good-done : (m h : ℕ) (b : Box) (t : History) (l : Log) (k : Good m h b t l) (q : Request) (c : Box) (g : Ghosts) (number : ℕ → ℕ) → b .state .held ≡ false → Stays b c → Inv c g → Related c (g .plan) (do-request q t) (given-by q c (l .given)) number
+pub good-done : (m h : ℕ) (b : Box) (t : History) (l : Log) (k : Good m h b t l) (q : Request) (c : Box) (g : Ghosts) (number : ℕ → ℕ)
+    → b .state .held ≡ false → Stays b c → Inv c g → Related c (g .plan) (do-request q t) (given-by q c (l .given)) number
     → ((started : History) → Tracked b (k .ghosts .plan) t (k .number) started → Tracked c (g .plan) (do-request q t) number started)
     → Good m h c (do-request q t) (log-done q c l)
 unfolding log-done disturb
@@ -140,7 +141,8 @@ wanted r n tag = record { register = r; size = n; tag = tag }
 abbrev put-off : ℕ → ℕ → ℕ → History → Pending
 put-off r n tag t = record { asked = wanted r n tag; history-then = with-hold (some (wanted r n tag)) t; steps = 0 }
 
-pub good-hold : (m h : ℕ) (b : Box) (t : History) (l : Log) (k : Good m h b t l) (r n tag : ℕ) → r < register-count → tag < half-word → b .state .held ≡ false → Good m h (hold r n tag b) (hold-request (Getm r n tag) t) (log-held (hold-request (Getm r n tag) t) l)
+pub good-hold : (m h : ℕ) (b : Box) (t : History) (l : Log) (k : Good m h b t l) (r n tag : ℕ) → r < register-count → tag < half-word
+    → b .state .held ≡ false → Good m h (hold r n tag b) (hold-request (Getm r n tag) t) (log-held (hold-request (Getm r n tag) t) l)
 unfolding hold hold-request log-held pend
 good-hold m h b t l k r n tag lr tg u =
     record {
@@ -214,7 +216,9 @@ module _ (m h : ℕ) (b : Box) (t : History) (l : Log) (k : Good m h b t l) (u :
   g = k .ghosts
 
   -- a register takes a word: the invariant and the relation are given
-  pub good-register : (q : Request) (r : ℕ) (w : Word) → Inv (put-register r w b) g → Related (put-register r w b) (g .plan) (do-request q t) (given-by q (put-register r w b) (l .given)) (k .number) → Good m h (put-register r w b) (do-request q t) (log-done q (put-register r w b) l)
+  pub good-register : (q : Request) (r : ℕ) (w : Word) → Inv (put-register r w b) g
+      → Related (put-register r w b) (g .plan) (do-request q t) (given-by q (put-register r w b) (l .given)) (k .number)
+      → Good m h (put-register r w b) (do-request q t) (log-done q (put-register r w b) l)
   good-register q r w v s =
       good-done m h b t l k q (put-register r w b) g (k .number) u (record { m-same = refl; h-same = refl; held-same = refl; phase-same = refl }) v s
       (λ started x. tracked-asked b (g .plan) (put-register r w b) t (do-request q t) (k .number) started (record {
@@ -224,7 +228,8 @@ module _ (m h : ℕ) (b : Box) (t : History) (l : Log) (k : Good m h b t l) (u :
         kept-to = put-kept-to r w b (g .plan);
       }) (spared-request t started (tracked-in b (g .plan) t (k .number) started x) (k .eight) q) x)
 
-  pub good-new : (r n tag : ℕ) → r < register-count → tag < half-word → b .state .free ≢ 0 → b .state .top + n + 1 ≤ b .state .m → Good m h (new-tuple r n tag b) (do-request (Getm r n tag) t) (log-done (Getm r n tag) (new-tuple r n tag b) l)
+  pub good-new : (r n tag : ℕ) → r < register-count → tag < half-word → b .state .free ≢ 0 → b .state .top + n + 1 ≤ b .state .m
+      → Good m h (new-tuple r n tag b) (do-request (Getm r n tag) t) (log-done (Getm r n tag) (new-tuple r n tag b) l)
   unfolding do-request given-by
   good-new r n tag lr tg fr fit =
       good-done m h b t l k (Getm r n tag) (new-tuple r n tag b) (made-ghosts g (b .state .free)) (renumbered (k .number) (b .state .free) (suc (made t))) u stays (invariant-new-tuple b g (k .inv) r n tag lr fr fit tg) noted (λ started x. tracked-made b g (k .inv) r n tag lr fr fit tg t (k .number) started x)
@@ -244,7 +249,8 @@ module _ (m h : ℕ) (b : Box) (t : History) (l : Log) (k : Good m h b t l) (u :
           (related-made b (g .plan) (new-tuple r n tag b) (made-plan (g .plan) (b .state .free)) r n tag t (l .given) (k .number) what (k .inv .contents) (k .related) (k .eight) lr)
 
   -- a word is stored: what the box is after it is given
-  pub good-store : (r s n : ℕ) → r < register-count → s < register-count → There s n b → (c : Box) (sc : Scans) → Inv c (with-scans sc g) → Stored b (g .plan) c (g .plan) (named s b) (number-in s n b) (register r b) → Stays b c → c .state .tuple ≡ b .state .tuple
+  pub good-store : (r s n : ℕ) → r < register-count → s < register-count → There s n b → (c : Box) (sc : Scans) → Inv c (with-scans sc g)
+      → Stored b (g .plan) c (g .plan) (named s b) (number-in s n b) (register r b) → Stays b c → c .state .tuple ≡ b .state .tuple
       → ((x : ℕ) → marked x c ≡ true → (marked x b ≡ true) ⊎ ((names-tuple (register r b) ≡ true) × (x ≡ handle-of (register r b))))
       → Good m h c (do-request (Store r s n) t) (log-done (Store r s n) c l)
   unfolding given-by
@@ -258,7 +264,9 @@ module _ (m h : ℕ) (b : Box) (t : History) (l : Log) (k : Good m h b t l) (u :
         kept-to = st .kept-to;
       }) (spared-request t started (tracked-in b (g .plan) t (k .number) started x) (k .eight) (Store r s n)) x)
     where
-      from : (started : History) → Tracked b (g .plan) t (k .number) started → (z : ℕ) → (marked z b ≡ true) ⊎ ((names-tuple (register r b) ≡ true) × (z ≡ handle-of (register r b))) → (marked z b ≡ true) ⊎ Spared started (k .number z)
+      from : (started : History) → Tracked b (g .plan) t (k .number) started → (z : ℕ)
+          → (marked z b ≡ true) ⊎ ((names-tuple (register r b) ≡ true) × (z ≡ handle-of (register r b)))
+          → (marked z b ≡ true) ⊎ Spared started (k .number z)
       from started x z (inl w) = inl w
       from started x z (inr w) = inr (subst (λ (i : ℕ). Spared started (k .number i)) (sym (w .1)) (root-spared b (g .plan) t (l .given) (k .number) (k .related) (k .inv .contents) started x r lr (w .0)))
 
@@ -266,7 +274,8 @@ module _ (m h : ℕ) (b : Box) (t : History) (l : Log) (k : Good m h b t l) (u :
   stored-kept : (s n : ℕ) → s < register-count → There s n b → Kept b (g .plan) (named s b)
   stored-kept s n ls th = k .inv .contents .roots-kept s ls (th .is-pointer)
 
-  pub good-store-data : (r s n : ℕ) → r < register-count → s < register-count → There s n b → names-tuple (register r b) ≡ false → Good m h (write (place-of s n b) (register r b) b) (do-request (Store r s n) t) (log-done (Store r s n) (write (place-of s n b) (register r b) b) l)
+  pub good-store-data : (r s n : ℕ) → r < register-count → s < register-count → There s n b → names-tuple (register r b) ≡ false
+      → Good m h (write (place-of s n b) (register r b) b) (do-request (Store r s n) t) (log-done (Store r s n) (write (place-of s n b) (register r b) b) l)
   good-store-data r s n lr ls th d =
       good-store r s n lr ls th (write (place-of s n b) (register r b) b) (g .scans) (stores-data b g (k .inv) (named s b) (number-in s n b) (stored-kept s n ls th) (th .inside) (register r b) d) (data-stored b g (k .inv) (named s b) (number-in s n b) (stored-kept s n ls th) (th .inside) (register r b))
       (record { m-same = w .m-same; h-same = w .h-same; held-same = w .held-same; phase-same = w .phase-same }) (w .tuple-same) (λ x z. inl (sym (w .marked-same x) ∙ z))
@@ -274,7 +283,9 @@ module _ (m h : ℕ) (b : Box) (t : History) (l : Log) (k : Good m h b t l) (u :
       w : WriteKeeps b (write (place-of s n b) (register r b) b)
       w = write-keeps (place-of s n b) (register r b) b
 
-  pub good-store-deep : (r s n : ℕ) → r < register-count → s < register-count → There s n b → Inv (write (place-of s n b) (register r b) (set-deep (named s b) true b)) g → Good m h (write (place-of s n b) (register r b) (set-deep (named s b) true b)) (do-request (Store r s n) t) (log-done (Store r s n) (write (place-of s n b) (register r b) (set-deep (named s b) true b)) l)
+  pub good-store-deep : (r s n : ℕ) → r < register-count → s < register-count → There s n b
+      → Inv (write (place-of s n b) (register r b) (set-deep (named s b) true b)) g
+      → Good m h (write (place-of s n b) (register r b) (set-deep (named s b) true b)) (do-request (Store r s n) t) (log-done (Store r s n) (write (place-of s n b) (register r b) (set-deep (named s b) true b)) l)
   good-store-deep r s n lr ls th v =
       good-store r s n lr ls th (write (place-of s n b) (register r b) (set-deep (named s b) true b)) (g .scans) v (deep-stored b g (k .inv) (named s b) (number-in s n b) (stored-kept s n ls th) (th .inside) (register r b))
       (record { m-same = w .m-same; h-same = w .h-same; held-same = w .held-same; phase-same = w .phase-same }) (w .tuple-same) (λ x z. inl (sym (w .marked-same x) ∙ z))
@@ -282,7 +293,9 @@ module _ (m h : ℕ) (b : Box) (t : History) (l : Log) (k : Good m h b t l) (u :
       w : WriteKeeps (set-deep (named s b) true b) (write (place-of s n b) (register r b) (set-deep (named s b) true b))
       w = write-keeps (place-of s n b) (register r b) (set-deep (named s b) true b)
 
-  pub good-store-shaded : (r s n : ℕ) → r < register-count → s < register-count → There s n b → names-tuple (register r b) ≡ true → 1 ≤ b .state .phase → b .state .phase ≤ 3 → Good m h (write (place-of s n b) (register r b) (set-deep (named s b) true (shade (named r b) b))) (do-request (Store r s n) t) (log-done (Store r s n) (write (place-of s n b) (register r b) (set-deep (named s b) true (shade (named r b) b))) l)
+  pub good-store-shaded : (r s n : ℕ) → r < register-count → s < register-count → There s n b → names-tuple (register r b) ≡ true
+      → 1 ≤ b .state .phase → b .state .phase ≤ 3
+      → Good m h (write (place-of s n b) (register r b) (set-deep (named s b) true (shade (named r b) b))) (do-request (Store r s n) t) (log-done (Store r s n) (write (place-of s n b) (register r b) (set-deep (named s b) true (shade (named r b) b))) l)
   good-store-shaded r s n lr ls th d p q =
       good-store r s n lr ls th (write (place-of s n b) (register r b) (set-deep (named s b) true (shade (named r b) b))) (shade-scans (named r b) b (g .scans)) (stores-shaded b g (k .inv) (named s b) (number-in s n b) (stored-kept s n ls th) (th .inside) (register r b) target (record {
         names = d;

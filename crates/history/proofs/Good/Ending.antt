@@ -80,7 +80,8 @@ module _ (m h : ℕ) (b : Box) (t : History) (l : Log) (k : Good m h b t l) (c :
   kept-spared = sp t (l .given) (k .number) started (k .related) (last .known .tracked)
 
   -- the claims about the cycles that have ended, with this one
-  ended-now : (e : Box) (given : List ℕ) (answered : List Answered) → Swept (record { cycle = full; box-then = e; given-then = given }) → Every (JustlyAnswered m h) answered → Every (λ (x : Answered). x .hold .steps ≤ 16 * m + 4) answered
+  ended-now : (e : Box) (given : List ℕ) (answered : List Answered) → Swept (record { cycle = full; box-then = e; given-then = given })
+      → Every (JustlyAnswered m h) answered → Every (λ (x : Answered). x .hold .steps ≤ 16 * m + 4) answered
       → Past m h (end-log-cycle (cycle-step b t (l .cycle)) e given (l .ended)) answered
   unfolding end-log-cycle
   ended-now e given answered w j i =
@@ -94,7 +95,9 @@ module _ (m h : ℕ) (b : Box) (t : History) (l : Log) (k : Good m h b t l) (c :
           omega arith
 
   -- what was unreachable is gone, in a box at rest whose kept tuples are spared
-  swept-now : (e : Box) (g : Ghosts) (u : History) (given : List ℕ) (number : ℕ → ℕ) → Inv e g → Related e (g .plan) u given number → e .state .phase ≡ 0 → made started ≤ made u → ((x : ℕ) → Kept e (g .plan) x → Spared started (number x)) → Swept (record { cycle = full; box-then = e; given-then = given })
+  swept-now : (e : Box) (g : Ghosts) (u : History) (given : List ℕ) (number : ℕ → ℕ) → Inv e g → Related e (g .plan) u given number
+      → e .state .phase ≡ 0 → made started ≤ made u → ((x : ℕ) → Kept e (g .plan) x → Spared started (number x))
+      → Swept (record { cycle = full; box-then = e; given-then = given })
   swept-now e g u given number v r p f q = record { dead-are-gone = λ i y z. gone-at-rest e g u given number started v r p f q i (y .0) (y .1) z }
 
   swept-rest : Swept (record { cycle = full; box-then = at-rest c; given-then = l .given })
@@ -194,7 +197,9 @@ module _ (m h : ℕ) (b : Box) (t : History) (l : Log) (k : Good m h b t l) (c :
 
   -- ---- it is dropped: 8
 
-  pub good-dropped : c .state .held ≡ true → c .state .begun ≡ true → (c .state .free ≡ 0) ⊎ (c .state .m < c .state .top + c .state .«hold_size» + 1) → Good m h (unheld (at-rest c)) (with-hold none t) (log-dropped b (unheld (at-rest c)) t l)
+  pub good-dropped : c .state .held ≡ true → c .state .begun ≡ true
+      → (c .state .free ≡ 0) ⊎ (c .state .m < c .state .top + c .state .«hold_size» + 1)
+      → Good m h (unheld (at-rest c)) (with-hold none t) (log-dropped b (unheld (at-rest c)) t l)
   unfolding log-dropped at-rest unheld
   good-dropped p q o =
       record {

@@ -54,7 +54,9 @@ module _ (m h : ℕ) (b : Box) (t : History) (l : Log) (k : Good m h b t l) (c :
   unfolding wait-step
   waiting-on z = go (k .waiting)
     where
-      twice : (q : Asked) (w : Pending) → b .state .held ≡ true → Held b (k .ghosts) t q w → Track b (k .ghosts) c (n .ghosts .plan) → c .state .begun ≡ false → c .state .phase ≢ 0 → suc (w .steps) + left c (n .ghosts) + (8 * c .state .m + 2) ≤ 16 * c .state .m + 4
+      twice : (q : Asked) (w : Pending) → b .state .held ≡ true → Held b (k .ghosts) t q w → Track b (k .ghosts) c (n .ghosts .plan)
+          → c .state .begun ≡ false → c .state .phase ≢ 0
+          → suc (w .steps) + left c (n .ghosts) + (8 * c .state .m + 2) ≤ 16 * c .state .m + 4
       twice q w p y (starts e f a x) d r = absurd (true≢false (sym (a p) ∙ d))
       twice q w p y (tracks e f a x) d r =
           let u : w .steps + left b (k .ghosts) + (8 * b .state .m + 2) ≤ 16 * b .state .m + 4 = y .in-time-twice (sym a ∙ d) e in

@@ -31,7 +31,8 @@ pub data After (m h : ℕ) (b : Box) (t : History) (l : Log) (r : Reply) : Type 
 
 module _ (m h : ℕ) (b : Box) (t : History) (l : Log) (k : Good m h b t l) where
   -- an end of the cycle, by what becomes of the hold
-  by-ending : (c : Box) (n : Next b (k .ghosts) (at-rest c)) → b .state .phase ≢ 0 → SameHold b c → c .state .begun ≡ b .state .begun → EndsSpared b (k .ghosts) (at-rest c) (n .ghosts .plan) → CycleEnd b c (n .ghosts) → After m h b t l (end-cycle b c)
+  by-ending : (c : Box) (n : Next b (k .ghosts) (at-rest c)) → b .state .phase ≢ 0 → SameHold b c → c .state .begun ≡ b .state .begun
+      → EndsSpared b (k .ghosts) (at-rest c) (n .ghosts .plan) → CycleEnd b c (n .ghosts) → After m h b t l (end-cycle b c)
   unfolding log-step
   by-ending c n d s a sp (CycleEnd.ends-free p e) = subst (After m h b t l) (sym e) (free refl (none-held (k .waiting)) (good-free m h b t l k c n d s a sp p))
     where
@@ -63,7 +64,8 @@ unfolding log-steps
 further m h n b r t l k = record { not-nine = k .not-nine; good = k .good }
 
 -- it stops at its first step
-last-step : (m h n : ℕ) (b : Box) (a : ℕ) (t : History) (l : Log) → a ≢ 9 → Good m h (step b .box) (feed (run-for n) a t) (log-step b (step b) t l) → GoodRun m h n b (ran (step b .box) a 1) t l
+last-step : (m h n : ℕ) (b : Box) (a : ℕ) (t : History) (l : Log) → a ≢ 9
+    → Good m h (step b .box) (feed (run-for n) a t) (log-step b (step b) t l) → GoodRun m h n b (ran (step b .box) a 1) t l
 unfolding log-steps
 last-step m h n b a t l z k = record { not-nine = z; good = k }
 
@@ -96,7 +98,9 @@ good-run-on m h n (suc budget) b t l k = go (after-step m h b t l k) (λ g. furt
     by : Course → Type 0
     by x = GoodRun m h n b (elim x as (λ y. Ran) [ going-on ↦ counted (run-on budget (step b .box)) | stops a ↦ ran (step b .box) a 1 | refuses ↦ ran b 9 0 ]) t l
 
-    go : After m h b t l (step b) → (Good m h (step b .box) t (log-step b (step b) t l) → GoodRun m h n b (counted (run-on budget (step b .box))) t l) → GoodRun m h n b (run-on (suc budget) b) t l
+    go : After m h b t l (step b)
+        → (Good m h (step b .box) t (log-step b (step b) t l) → GoodRun m h n b (counted (run-on budget (step b .box))) t l)
+        → GoodRun m h n b (run-on (suc budget) b) t l
     go (on (inl e) g) f = subst by (sym (ap course e ∙ going-30)) (f g)
     go (on (inr e) g) f = subst by (sym (ap course e ∙ going-33)) (f g)
     go (free e o g) f = subst by (sym (ap course e ∙ stops-31)) (last-step m h n b 0 t l (omega arith) (subst (λ (x : Option Asked). Good m h (step b .box) (grant x t) (log-step b (step b) t l)) (sym o) g))

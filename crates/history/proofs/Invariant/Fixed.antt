@@ -85,7 +85,8 @@ pub record SameLaid (b c : Box) (a : ℕ) (hs : List ℕ) : Type 0 where
   pub top : c .state .top ≡ b .state .top
 
 -- the columns that it reads are the same
-pub same-columns : (b c : Box) (a : ℕ) (hs : List ℕ) → c .addresses ≡ b .addresses → c .sizes ≡ b .sizes → c .words ≡ b .words → c .flags ≡ b .flags → c .state .top ≡ b .state .top
+pub same-columns : (b c : Box) (a : ℕ) (hs : List ℕ) → c .addresses ≡ b .addresses → c .sizes ≡ b .sizes → c .words ≡ b .words
+    → c .flags ≡ b .flags → c .state .top ≡ b .state .top
     → SameLaid b c a hs
 same-columns b c a hs ad sz wd fl t =
     record {

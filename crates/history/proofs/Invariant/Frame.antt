@@ -54,7 +54,8 @@ shape-same b c s p =
 -- ---- handles
 
 -- the handles in other lists, each once as before
-pub handles-moved : (b c : Box) (p q : Plan) (free free′ : List ℕ) → Perm (all p free) (all q free′) → c .state .h ≡ b .state .h → Chain (c .links) (c .state .free) free′ → Handles b p free → Handles c q free′
+pub handles-moved : (b c : Box) (p q : Plan) (free free′ : List ℕ) → Perm (all p free) (all q free′) → c .state .h ≡ b .state .h
+    → Chain (c .links) (c .state .free) free′ → Handles b p free → Handles c q free′
 handles-moved b c p q free free′ m e ch i =
     record {
       distinct = perm-distinct m (i .distinct);
@@ -72,7 +73,8 @@ handles-same b c p free e ch i =
 -- ---- layout
 
 -- addresses, sizes and memory as they were
-pub layout-same : (b c : Box) (p : Plan) → ((h : ℕ) → address h c ≡ address h b) → ((h : ℕ) → size-of h c ≡ size-of h b) → ((a : ℕ) → word-at a c ≡ word-at a b) → c .state .top ≡ b .state .top → c .state .m ≡ b .state .m → Layout b p → Layout c p
+pub layout-same : (b c : Box) (p : Plan) → ((h : ℕ) → address h c ≡ address h b) → ((h : ℕ) → size-of h c ≡ size-of h b)
+    → ((a : ℕ) → word-at a c ≡ word-at a b) → c .state .top ≡ b .state .top → c .state .m ≡ b .state .m → Layout b p → Layout c p
 layout-same b c p ad sz wd t m l =
     record {
       done-laid = laid-frame b c 0 (p .done) (p .low) (λ h x. ad h) (λ h x. sz h) (λ h x. wd (address h b)) (l .done-laid);
@@ -136,7 +138,8 @@ pub record Next (b : Box) (g : Ghosts) (c : Box) : Type 0 where
   pub calm : Calm b (g .plan) c (ghosts .plan)
 
 -- the same plan: kept as before, where marks stay and the sweep does not begin or end
-pub kept-same : (b c : Box) (p : Plan) → (b .state .phase ≤ 3 → c .state .phase ≤ 3) → ((h : ℕ) → marked h b ≡ true → marked h c ≡ true) → (h : ℕ) → Kept b p h → Kept c p h
+pub kept-same : (b c : Box) (p : Plan) → (b .state .phase ≤ 3 → c .state .phase ≤ 3) → ((h : ℕ) → marked h b ≡ true → marked h c ≡ true)
+    → (h : ℕ) → Kept b p h → Kept c p h
 kept-same b c p u m h (settled x) = settled x
 kept-same b c p u m h (moving x) = moving x
 kept-same b c p u m h (unswept x l) = unswept x (u l)
@@ -145,7 +148,9 @@ kept-same b c p u m h (surviving x t) = surviving x (m h t)
 -- ---- marks
 
 -- marks, deep flags, sizes, links and the numbers as they were; words of unswept tuples too
-pub marks-same : (b c : Box) (p : Plan) (free : List ℕ) (s : Scans) → ((h : ℕ) → marked h c ≡ marked h b) → ((h : ℕ) → deep h c ≡ deep h b) → ((h : ℕ) → size-of h c ≡ size-of h b) → c .links ≡ b .links → c .state .live ≡ b .state .live → c .state .next ≡ b .state .next → c .state .current ≡ b .state .current
+pub marks-same : (b c : Box) (p : Plan) (free : List ℕ) (s : Scans) → ((h : ℕ) → marked h c ≡ marked h b) → ((h : ℕ) → deep h c ≡ deep h b)
+    → ((h : ℕ) → size-of h c ≡ size-of h b) → c .links ≡ b .links → c .state .live ≡ b .state .live → c .state .next ≡ b .state .next
+    → c .state .current ≡ b .state .current
     → (c .state .phase ≤ 3 → b .state .phase ≤ 3) → (c .state .phase ≤ 3 → (h i : ℕ) → word h i c ≡ word h i b) → Marks b p free s → Marks c p free s
 marks-same b c p free s mk dp sz ln lv nx cr ph wd i =
     record {
@@ -165,7 +170,8 @@ marks-same b c p free s mk dp sz ln lv nx cr ph wd i =
     sums : rooms b (p .mid) + marked-rooms b (p .ahead) ≡ rooms c (p .mid) + marked-rooms c (p .ahead)
     sums = sym (ap₂ (λ (x y : ℕ). x + y) (rooms-frame b c (p .mid) (λ h x. sz h)) (marked-rooms-frame b c (p .ahead) (λ h x. sz h) (λ h x. mk h)))
 
-    dark : c .state .phase ≤ 3 → (h : ℕ) → Member h (p .ahead) → marked h c ≡ true → ¬ Member h (listed s) → (k : ℕ) → k < size-of h c → names-tuple (word h (k + 1) c) ≡ true → marked (handle-of (word h (k + 1) c)) c ≡ true
+    dark : c .state .phase ≤ 3 → (h : ℕ) → Member h (p .ahead) → marked h c ≡ true → ¬ Member h (listed s) → (k : ℕ) → k < size-of h c
+        → names-tuple (word h (k + 1) c) ≡ true → marked (handle-of (word h (k + 1) c)) c ≡ true
     dark l h x t o k u n =
         let e : word h (k + 1) c ≡ word h (k + 1) b = wd l h (k + 1) in
         mk (handle-of (word h (k + 1) c)) ∙ subst (λ (w : Word). marked (handle-of w) b ≡ true) (sym e) (i .black (ph l) h x (sym (mk h) ∙ t) o k (subst (λ (z : ℕ). k < z) (sz h) u) (subst (λ (w : Word). names-tuple w ≡ true) e n))

@@ -131,7 +131,8 @@ pub record Marks (b : Box) (p : Plan) (free : List ℕ) (s : Scans) : Type 0 whe
   pub listed-marked : (h : ℕ) → Member h (listed s) → marked h b ≡ true
   pub listed-deep : (h : ℕ) → Member h (listed s) → deep h b ≡ true
   -- a marked tuple that waits for no scan is black: what it points to is marked
-  pub black : b .state .phase ≤ 3 → (h : ℕ) → Member h (p .ahead) → marked h b ≡ true → ¬ Member h (listed s) → (k : ℕ) → k < size-of h b → names-tuple (word h (k + 1) b) ≡ true → marked (handle-of (word h (k + 1) b)) b ≡ true
+  pub black : b .state .phase ≤ 3 → (h : ℕ) → Member h (p .ahead) → marked h b ≡ true → ¬ Member h (listed s) → (k : ℕ) → k < size-of h b
+      → names-tuple (word h (k + 1) b) ≡ true → marked (handle-of (word h (k + 1) b)) b ≡ true
 
 -- ---- the stages, by phase
 
@@ -182,7 +183,8 @@ pub data Stage (b : Box) (g : Ghosts) : Type 0 where
   reading : b .state .phase ≡ 5 → Move b g → b .state .index ≤ b .state .size + 1 → g .zeroed ≡ b .state .src + b .state .index → Stage b g
   clearing : b .state .phase ≡ 6 → Move b g → b .state .index ≤ b .state .size → g .zeroed ≡ b .state .src + b .state .index → Stage b g
   writing : b .state .phase ≡ 7 → Move b g → b .state .index ≤ b .state .size → g .zeroed ≡ b .state .src + b .state .index + 1 → Stage b g
-  zeroing : b .state .phase ≡ 8 → Unlisted g → g .plan .mid ≡ [] → g .plan .low ≡ b .state .dest → g .plan .base ≡ b .state .src + b .state .size + 1 → b .state .dest ≤ b .state .src
+  zeroing : b .state .phase ≡ 8 → Unlisted g → g .plan .mid ≡ [] → g .plan .low ≡ b .state .dest
+      → g .plan .base ≡ b .state .src + b .state .size + 1 → b .state .dest ≤ b .state .src
       → b .state .index ≤ b .state .size + 1 → g .zeroed ≡ b .state .src + b .state .index → Stage b g
 
 pub record Inv (b : Box) (g : Ghosts) : Type 0 where

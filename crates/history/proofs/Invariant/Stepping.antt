@@ -119,7 +119,8 @@ marks-none : (b : Box) (g : Ghosts) → Inv b g → (c : Box) (n : Next b g c) �
 marks-none b g v c n lb ub lc uc e k = marks-spared b g v c n lb ub lc uc e (λ m given number started r t h x. inl (sym (k h) ∙ x))
 
 -- a transition of the sweep
-sweeps-track : (b : Box) (g : Ghosts) → Inv b g → (c : Box) (n : Next b g c) → 4 ≤ b .state .phase → 4 ≤ c .state .phase → c .state .begun ≡ b .state .begun → Track b g c (n .ghosts .plan)
+sweeps-track : (b : Box) (g : Ghosts) → Inv b g → (c : Box) (n : Next b g c) → 4 ≤ b .state .phase → 4 ≤ c .state .phase
+    → c .state .begun ≡ b .state .begun → Track b g c (n .ghosts .plan)
 sweeps-track b g v c n lb lc e =
     tracks (omega arith) (omega arith) e
     (λ m given number started r t. tracked-swept b g v c (n .ghosts .plan) (n .calm) m number started t lb lc)
@@ -194,7 +195,8 @@ step-shades-root b g v p r l x f s =
     (marks-spared b g v c n (omega arith) (omega arith) (omega arith) (omega arith) (shade-hold h b .1)
     (λ m given number started q t. shade-marked-only h b (λ (y : ℕ). Spared started (number y)) (root-spared b (g .plan) m given number q (v .contents) started t r l x)))
 
-step-begins-sweep : (b : Box) (g : Ghosts) → Inv b g → b .state .phase ≡ 1 → b .state .next ≡ 0 → RootsMarked b → b .state .top ≢ 0 → step b ≡ going (begin-sweep b) → Stepped b g
+step-begins-sweep : (b : Box) (g : Ghosts) → Inv b g → b .state .phase ≡ 1 → b .state .next ≡ 0 → RootsMarked b → b .state .top ≢ 0
+    → step b ≡ going (begin-sweep b) → Stepped b g
 unfolding begin-sweep
 step-begins-sweep b g v p z roots t s =
     let c : Box = begin-sweep b in
@@ -227,13 +229,15 @@ step-scans-pointer b g v p i f s =
     (tracks (omega arith) (omega arith) refl
     (λ m given number started r t. tracked-marks b g v c (n .ghosts .plan) (n .calm) m number started t (omega arith) (omega arith) (λ h x. inl x) (λ e. scanned-spared b g m given number started v r t p i f)))
 
-step-scan-ends : (b : Box) (g : Ghosts) → Inv b g → b .state .phase ≡ 2 → b .state .size < b .state .index → b .state .current ≡ 0 → step b ≡ going (to-phase 1 b) → Stepped b g
+step-scan-ends : (b : Box) (g : Ghosts) → Inv b g → b .state .phase ≡ 2 → b .state .size < b .state .index → b .state .current ≡ 0
+    → step b ≡ going (to-phase 1 b) → Stepped b g
 step-scan-ends b g v p i z s =
     let c : Box = to-phase 1 b in
     let n : Next b g c = scan-ends b g v p i z in
     goes b g v c s n (search) (marks-none b g v c n (omega arith) (omega arith) (omega arith) (omega arith) refl (λ h. refl))
 
-step-takes-current : (b : Box) (g : Ghosts) → Inv b g → b .state .phase ≡ 2 → b .state .size < b .state .index → b .state .current ≢ 0 → step b ≡ going (scan (b .state .current) b) → Stepped b g
+step-takes-current : (b : Box) (g : Ghosts) → Inv b g → b .state .phase ≡ 2 → b .state .size < b .state .index → b .state .current ≢ 0
+    → step b ≡ going (scan (b .state .current) b) → Stepped b g
 unfolding scan
 step-takes-current b g v p i z s =
     let c : Box = scan (b .state .current) b in
@@ -248,7 +252,8 @@ step-adds-marked b g v p t s =
     let n : Next b g c = adds-marked b g v p t in
     goes b g v c s n (search) (marks-none b g v c n (omega arith) (omega arith) (omega arith) (omega arith) refl (λ h. refl))
 
-step-adds-unmarked : (b : Box) (g : Ghosts) → Inv b g → b .state .phase ≡ 3 → marked (b .state .tuple) b ≡ false → step b ≡ going (to-phase 2 (shade (b .state .tuple) b)) → Stepped b g
+step-adds-unmarked : (b : Box) (g : Ghosts) → Inv b g → b .state .phase ≡ 3 → marked (b .state .tuple) b ≡ false
+    → step b ≡ going (to-phase 2 (shade (b .state .tuple) b)) → Stepped b g
 step-adds-unmarked b g v p f s =
     let h : ℕ = b .state .tuple in
     let c : Box = to-phase 2 (shade h b) in
@@ -261,7 +266,8 @@ step-adds-unmarked b g v p f s =
 
 -- ---- 4
 
-step-keeps-last : (b : Box) (g : Ghosts) → Inv b g → b .state .phase ≡ 4 → marked (b .state .tuple) b ≡ true → b .state .src ≡ b .state .dest → swept-after b ≡ b .state .top
+step-keeps-last : (b : Box) (g : Ghosts) → Inv b g → b .state .phase ≡ 4 → marked (b .state .tuple) b ≡ true
+    → b .state .src ≡ b .state .dest → swept-after b ≡ b .state .top
     → step b ≡ end-cycle b (kept-last-box b) → Stepped b g
 step-keeps-last b g v p t d e s =
     let n : Next b g (at-rest (kept-last-box b)) = ended-next b g (kept-last-box b) (keeps-last b g v p t d e) in
@@ -274,19 +280,22 @@ step-keeps b g v p t d e s =
     let n : Next b g c = keeps b g v p t d e in
     goes b g v c s n (search) (sweeps-track b g v c n (omega arith) (omega arith) refl)
 
-step-starts-move : (b : Box) (g : Ghosts) → Inv b g → b .state .phase ≡ 4 → marked (b .state .tuple) b ≡ true → b .state .src ≢ b .state .dest → step b ≡ going (move-begun-box b) → Stepped b g
+step-starts-move : (b : Box) (g : Ghosts) → Inv b g → b .state .phase ≡ 4 → marked (b .state .tuple) b ≡ true
+    → b .state .src ≢ b .state .dest → step b ≡ going (move-begun-box b) → Stepped b g
 step-starts-move b g v p t d s =
     let c : Box = move-begun-box b in
     let n : Next b g c = starts-move b g v p t d in
     goes b g v c s n (search) (sweeps-track b g v c n (omega arith) (omega arith) refl)
 
-step-releases : (b : Box) (g : Ghosts) → Inv b g → b .state .phase ≡ 4 → marked (b .state .tuple) b ≡ false → b .state .src + swept-size b < b .state .live → step b ≡ going (released-box b) → Stepped b g
+step-releases : (b : Box) (g : Ghosts) → Inv b g → b .state .phase ≡ 4 → marked (b .state .tuple) b ≡ false
+    → b .state .src + swept-size b < b .state .live → step b ≡ going (released-box b) → Stepped b g
 step-releases b g v p t l s =
     let c : Box = released-box b in
     let n : Next b g c = releases b g v p t l in
     goes b g v c s n (search) (sweeps-track b g v c n (omega arith) (omega arith) refl)
 
-step-starts-zero : (b : Box) (g : Ghosts) → Inv b g → b .state .phase ≡ 4 → marked (b .state .tuple) b ≡ false → b .state .live ≤ b .state .src + swept-size b → step b ≡ going (zero-begun-box b) → Stepped b g
+step-starts-zero : (b : Box) (g : Ghosts) → Inv b g → b .state .phase ≡ 4 → marked (b .state .tuple) b ≡ false
+    → b .state .live ≤ b .state .src + swept-size b → step b ≡ going (zero-begun-box b) → Stepped b g
 step-starts-zero b g v p t l s =
     let c : Box = zero-begun-box b in
     let n : Next b g c = starts-zero b g v p t l in
@@ -294,25 +303,29 @@ step-starts-zero b g v p t l s =
 
 -- ---- 5
 
-step-copies-low : (b : Box) (g : Ghosts) → Inv b g → b .state .phase ≡ 5 → b .state .index ≤ b .state .size → b .state .src + b .state .index < b .state .live → step b ≡ going (copied-box 7 b) → Stepped b g
+step-copies-low : (b : Box) (g : Ghosts) → Inv b g → b .state .phase ≡ 5 → b .state .index ≤ b .state .size
+    → b .state .src + b .state .index < b .state .live → step b ≡ going (copied-box 7 b) → Stepped b g
 step-copies-low b g v p i l s =
     let c : Box = copied-box 7 b in
     let n : Next b g c = copies-low b g v p i l in
     goes b g v c s n (search) (sweeps-track b g v c n (omega arith) (omega arith) refl)
 
-step-copies-high : (b : Box) (g : Ghosts) → Inv b g → b .state .phase ≡ 5 → b .state .index ≤ b .state .size → b .state .live ≤ b .state .src + b .state .index → step b ≡ going (copied-box 6 b) → Stepped b g
+step-copies-high : (b : Box) (g : Ghosts) → Inv b g → b .state .phase ≡ 5 → b .state .index ≤ b .state .size
+    → b .state .live ≤ b .state .src + b .state .index → step b ≡ going (copied-box 6 b) → Stepped b g
 step-copies-high b g v p i l s =
     let c : Box = copied-box 6 b in
     let n : Next b g c = copies-high b g v p i l in
     goes b g v c s n (search) (sweeps-track b g v c n (omega arith) (omega arith) refl)
 
-step-moves-on : (b : Box) (g : Ghosts) → Inv b g → b .state .phase ≡ 5 → b .state .size < b .state .index → after b ≢ b .state .top → step b ≡ going (moved-box b) → Stepped b g
+step-moves-on : (b : Box) (g : Ghosts) → Inv b g → b .state .phase ≡ 5 → b .state .size < b .state .index → after b ≢ b .state .top
+    → step b ≡ going (moved-box b) → Stepped b g
 step-moves-on b g v p i e s =
     let c : Box = moved-box b in
     let n : Next b g c = moves-on b g v p i e in
     goes b g v c s n (search) (sweeps-track b g v c n (omega arith) (omega arith) refl)
 
-step-ends-move : (b : Box) (g : Ghosts) → Inv b g → b .state .phase ≡ 5 → b .state .size < b .state .index → after b ≡ b .state .top → step b ≡ end-cycle b (moved-last-box b) → Stepped b g
+step-ends-move : (b : Box) (g : Ghosts) → Inv b g → b .state .phase ≡ 5 → b .state .size < b .state .index → after b ≡ b .state .top
+    → step b ≡ end-cycle b (moved-last-box b) → Stepped b g
 step-ends-move b g v p i e s =
     let n : Next b g (at-rest (moved-last-box b)) = ends-move b g v p i e in
     ends (moved-last-box b) s n (omega arith) (search) refl (sweep-spared b g v (at-rest (moved-last-box b)) n (omega arith))
@@ -341,14 +354,16 @@ step-zeroes b g v p i s =
     let n : Next b g c = zeroes b g v p i in
     goes b g v c s n (search) (sweeps-track b g v c n (omega arith) (omega arith) refl)
 
-step-zero-on : (b : Box) (g : Ghosts) → Inv b g → b .state .phase ≡ 8 → b .state .size < b .state .index → after b ≢ b .state .top → step b ≡ going (go-on (after b) b) → Stepped b g
+step-zero-on : (b : Box) (g : Ghosts) → Inv b g → b .state .phase ≡ 8 → b .state .size < b .state .index → after b ≢ b .state .top
+    → step b ≡ going (go-on (after b) b) → Stepped b g
 unfolding go-on
 step-zero-on b g v p i e s =
     let c : Box = go-on (after b) b in
     let n : Next b g c = zero-on b g v p i e in
     goes b g v c s n (search) (sweeps-track b g v c n (omega arith) (omega arith) refl)
 
-step-zero-ends : (b : Box) (g : Ghosts) → Inv b g → b .state .phase ≡ 8 → b .state .size < b .state .index → after b ≡ b .state .top → step b ≡ end-cycle b (zeroed-last-box b) → Stepped b g
+step-zero-ends : (b : Box) (g : Ghosts) → Inv b g → b .state .phase ≡ 8 → b .state .size < b .state .index → after b ≡ b .state .top
+    → step b ≡ end-cycle b (zeroed-last-box b) → Stepped b g
 step-zero-ends b g v p i e s =
     let n : Next b g (at-rest (zeroed-last-box b)) = ended-next b g (zeroed-last-box b) (zero-ends b g v p i e) in
     ends (zeroed-last-box b) s n (omega arith) (search) refl (sweep-spared b g v (at-rest (zeroed-last-box b)) n (omega arith))

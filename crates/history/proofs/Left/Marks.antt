@@ -79,10 +79,12 @@ same-marking b g c g′ v w s l k = record { same = same-ahead b g c g′ v w (s
 
 -- ---- the lists stay
 
-same-nexts : (b : Box) (g : Ghosts) (c : Box) (g′ : Ghosts) → Inv b g → Inv c g′ → c .links ≡ b .links → c .state .next ≡ b .state .next → g′ .scans .nexts ≡ g .scans .nexts
+same-nexts : (b : Box) (g : Ghosts) (c : Box) (g′ : Ghosts) → Inv b g → Inv c g′ → c .links ≡ b .links → c .state .next ≡ b .state .next
+    → g′ .scans .nexts ≡ g .scans .nexts
 same-nexts b g c g′ v w e f = nexts-fixed c g′ (g .scans .nexts) w (nexts-entry b g v) (rw (e, f) (v .marks .nexts-chain))
 
-same-currents : (b : Box) (g : Ghosts) (c : Box) (g′ : Ghosts) → Inv b g → Inv c g′ → c .links ≡ b .links → c .state .current ≡ b .state .current → g′ .scans .currents ≡ g .scans .currents
+same-currents : (b : Box) (g : Ghosts) (c : Box) (g′ : Ghosts) → Inv b g → Inv c g′ → c .links ≡ b .links
+    → c .state .current ≡ b .state .current → g′ .scans .currents ≡ g .scans .currents
 same-currents b g c g′ v w e f = currents-fixed c g′ (g .scans .currents) w (currents-entry b g v) (rw (e, f) (v .marks .currents-chain))
 
 pub same-lists : (b : Box) (g : Ghosts) (c : Box) (g′ : Ghosts) → Inv b g → Inv c g′ → SameEntries b c → SameHeads b c → SameLists g g′
@@ -98,7 +100,8 @@ left-rests b g c g′ v w p q s n m =
 -- ---- 1
 
 pub left-takes-next : (b : Box) (g : Ghosts) (c : Box) (g′ : Ghosts) → Inv b g → Inv c g′ → b .state .phase ≡ 1 → c .state .phase ≡ 2 → SameEntries b c
-    → b .state .next ≢ 0 → c .state .next ≡ 0 → c .state .current ≡ link (b .state .next) b → c .state .size ≡ size-of (b .state .next) b → c .state .index ≡ 1 → left c g′ < left b g
+    → b .state .next ≢ 0 → c .state .next ≡ 0 → c .state .current ≡ link (b .state .next) b → c .state .size ≡ size-of (b .state .next) b
+    → c .state .index ≡ 1 → left c g′ < left b g
 left-takes-next b g c g′ v w p q s some none behind z i =
     let t : (tl : List ℕ) × (g .scans .nexts ≡ b .state .next ∷ tl) × Chain (b .links) (link (b .state .next) b) tl = chain-head (b .links) (b .state .next) (g .scans .nexts) (v .marks .nexts-chain) some in
     let taken : g′ .scans .currents ≡ t .0 = currents-fixed c g′ (t .0) w (λ h m. nexts-entry b g v h (subst (λ (l : List ℕ). Member h l) (sym (t .1)) (inr m))) (rw (s .links-are, behind) (t .2)) in
@@ -175,7 +178,8 @@ pub left-scan-ends : (b : Box) (g : Ghosts) (c : Box) (g′ : Ghosts) → Inv b 
 left-scan-ends b g c g′ v w p q s h = falls-scan-ends b g c g′ p q (same-marking b g c g′ v w s (omega arith) (omega arith)) (same-lists b g c g′ v w s h)
 
 pub left-takes-current : (b : Box) (g : Ghosts) (c : Box) (g′ : Ghosts) → Inv b g → Inv c g′ → b .state .phase ≡ 2 → c .state .phase ≡ 2 → SameEntries b c
-    → b .state .current ≢ 0 → c .state .next ≡ b .state .next → c .state .current ≡ link (b .state .current) b → c .state .size ≡ size-of (b .state .current) b → c .state .index ≡ 1
+    → b .state .current ≢ 0 → c .state .next ≡ b .state .next → c .state .current ≡ link (b .state .current) b
+    → c .state .size ≡ size-of (b .state .current) b → c .state .index ≡ 1
     → left c g′ < left b g
 left-takes-current b g c g′ v w p q s some n behind z i =
     let t : (tl : List ℕ) × (g .scans .currents ≡ b .state .current ∷ tl) × Chain (b .links) (link (b .state .current) b) tl = chain-head (b .links) (b .state .current) (g .scans .currents) (v .marks .currents-chain) some in

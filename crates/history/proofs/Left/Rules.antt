@@ -133,7 +133,8 @@ put-below : (a k : ℕ) (u : Word) (b : Box) → k < a → (x : ℕ) → a ≤ x
 put-below a k u b l x m = put-other k u b x (omega arith)
 
 pub fewer-clears : (b : Box) (g g′ : Ghosts) → Inv b g → b .state .phase ≡ 6
-    → Inv (to-phase 7 (put (b .state .src + b .state .index) (data-word 0) b)) g′ → left (to-phase 7 (put (b .state .src + b .state .index) (data-word 0) b)) g′ < left b g
+    → Inv (to-phase 7 (put (b .state .src + b .state .index) (data-word 0) b)) g′
+    → left (to-phase 7 (put (b .state .src + b .state .index) (data-word 0) b)) g′ < left b g
 fewer-clears b g g′ v p w =
     let i : b .state .index ≤ b .state .size = at-clear b g (v .stage) p .index-most in
     left-clears b g (to-phase 7 (put (b .state .src + b .state .index) (data-word 0) b)) g′ v w p refl

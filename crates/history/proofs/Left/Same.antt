@@ -27,7 +27,8 @@ left-in-same (suc (suc (suc (suc (suc (suc (suc (suc zero)))))))) b g c g′ s l
 left-in-same (suc (suc (suc (suc (suc (suc (suc (suc (suc p))))))))) b g c g′ s l o = refl
 
 -- where the tuples ahead begin
-base-same : (b : Box) (g : Ghosts) (c : Box) (g′ : Ghosts) → Inv b g → Inv c g′ → c .state .phase ≡ b .state .phase → c .state .src ≡ b .state .src → c .state .size ≡ b .state .size
+base-same : (b : Box) (g : Ghosts) (c : Box) (g′ : Ghosts) → Inv b g → Inv c g′ → c .state .phase ≡ b .state .phase
+    → c .state .src ≡ b .state .src → c .state .size ≡ b .state .size
     → g′ .plan .base ≡ g .plan .base
 base-same b g c g′ v w p e z = by-stage (v .stage)
   where

@@ -11,7 +11,8 @@ use Rattle.history.specs.Agreement.{Member}
 use Rattle.history.proofs.Invariant.Statement.{Chain}
 
 -- the chain goes only by the links of its members
-pub chain-frame : (links links′ : List ℕ) (head : ℕ) (hs : List ℕ) → ((h : ℕ) → Member h hs → getD links′ h 0 ≡ getD links h 0) → Chain links head hs → Chain links′ head hs
+pub chain-frame : (links links′ : List ℕ) (head : ℕ) (hs : List ℕ) → ((h : ℕ) → Member h hs → getD links′ h 0 ≡ getD links h 0)
+    → Chain links head hs → Chain links′ head hs
 chain-frame links links′ head [] same c = c
 chain-frame links links′ head (h ∷ hs) same c =
     (c .0, subst (λ (n : ℕ). Chain links′ n hs) (sym (same h (inl refl))) (chain-frame links links′ (getD links h 0) hs (λ k m. same k (inr m)) (c .1)))

@@ -63,7 +63,8 @@ remove-gone x (y ∷ ys) d m = go (ℕ-discrete x y) (remove-gone x ys (d .1)) m
     go (no n) ih (inr m) = ih m
 
 -- what is at most n + 1 and is not n + 1 is at most n
-lower : (n : ℕ) (xs ys : List ℕ) → ((x : ℕ) → Member x xs → (1 ≤ x) × (x ≤ suc n)) → ((x : ℕ) → Member x ys → Member x xs) → ¬ Member (suc n) ys → (x : ℕ) → Member x ys → (1 ≤ x) × (x ≤ n)
+lower : (n : ℕ) (xs ys : List ℕ) → ((x : ℕ) → Member x xs → (1 ≤ x) × (x ≤ suc n)) → ((x : ℕ) → Member x ys → Member x xs)
+    → ¬ Member (suc n) ys → (x : ℕ) → Member x ys → (1 ≤ x) × (x ≤ n)
 lower n xs ys f g o x m =
     let u : (1 ≤ x) × (x ≤ suc n) = f x (g x m) in
     let v : x ≢ suc n = λ e. o (subst (λ (z : ℕ). Member z ys) e m) in
@@ -99,7 +100,8 @@ pub remove-room : (x : ℕ) (xs : List ℕ) (t : History) → Member x xs → ro
 unfolding remove pick room
 remove-room x (y ∷ ys) t m = go (ℕ-discrete x y) (remove-room x ys t) m
   where
-    go : (d : Dec (x ≡ y)) → (Member x ys → room ys t ≡ size-at x t + 1 + room (remove x ys) t) → (x ≡ y) ⊎ Member x ys → size-at y t + 1 + room ys t ≡ size-at x t + 1 + room (pick d ys (y ∷ remove x ys)) t
+    go : (d : Dec (x ≡ y)) → (Member x ys → room ys t ≡ size-at x t + 1 + room (remove x ys) t) → (x ≡ y) ⊎ Member x ys
+        → size-at y t + 1 + room ys t ≡ size-at x t + 1 + room (pick d ys (y ∷ remove x ys)) t
     go (yes e) ih m = ap (λ (z : ℕ). size-at z t + 1 + room ys t) (sym e)
     go (no d) ih (inl q) = absurd (d q)
     go (no d) ih (inr m) = let e : room ys t ≡ size-at x t + 1 + room (remove x ys) t = ih m in omega arith

@@ -35,7 +35,9 @@ pub record Alike (b c : Box) : Type 0 where
   pub hold-is : hold-of c ≡ hold-of b
 
 -- only the state differs
-pub alike-state : (b : Box) (s : State) → s .m ≡ b .state .m → s .h ≡ b .state .h → s .registers ≡ b .state .registers → s .flags ≡ b .state .flags → s .top ≡ b .state .top → s .free ≡ b .state .free → s .held ≡ b .state .held → hold-of (with-state s b) ≡ hold-of b → Alike b (with-state s b)
+pub alike-state : (b : Box) (s : State) → s .m ≡ b .state .m → s .h ≡ b .state .h → s .registers ≡ b .state .registers
+    → s .flags ≡ b .state .flags → s .top ≡ b .state .top → s .free ≡ b .state .free → s .held ≡ b .state .held
+    → hold-of (with-state s b) ≡ hold-of b → Alike b (with-state s b)
 alike-state b s m h r f t q d e =
     record {
       words-are = refl;
@@ -134,7 +136,8 @@ abbrev pub Black : Box → ℕ → Type 0
 Black b h = (k : ℕ) → k < size-of h b → names-tuple (word h (k + 1) b) ≡ true → marked (handle-of (word h (k + 1) b)) b ≡ true
 
 -- marks stay, and what is black is so still
-pub black-alike : (b c : Box) → Alike b c → b .state .phase ≤ 4 → c .state .phase ≤ 4 → ((h : ℕ) → marked h b ≡ true → marked h c ≡ true) → (h : ℕ) → Black b h → Black c h
+pub black-alike : (b c : Box) → Alike b c → b .state .phase ≤ 4 → c .state .phase ≤ 4 → ((h : ℕ) → marked h b ≡ true → marked h c ≡ true)
+    → (h : ℕ) → Black b h → Black c h
 black-alike b c s lb lc m h d k l n =
     let e : word h (k + 1) c ≡ word h (k + 1) b = word-alike b c s lb lc h (k + 1) in
     subst (λ (w : Word). marked (handle-of w) c ≡ true) (sym e)
@@ -151,7 +154,8 @@ pub record Relisted (b c : Box) (s s′ : Scans) : Type 0 where
   pub none-added : (h : ℕ) → Member h (listed s′) → Member h (listed s)
   pub out-black : (h : ℕ) → Member h (listed s) → ¬ Member h (listed s′) → Black b h
 
-pub marks-relisted : (b c : Box) (p : Plan) (free : List ℕ) (s s′ : Scans) → Alike b c → b .state .phase ≤ 3 → c .state .phase ≤ 3 → Relisted b c s s′ → Marks b p free s → Marks c p free s′
+pub marks-relisted : (b c : Box) (p : Plan) (free : List ℕ) (s s′ : Scans) → Alike b c → b .state .phase ≤ 3 → c .state .phase ≤ 3
+    → Relisted b c s s′ → Marks b p free s → Marks c p free s′
 marks-relisted b c p free s s′ a lb lc r i =
     record {
       free-unmarked = λ h x. mk h ∙ i .free-unmarked h x;
@@ -215,7 +219,8 @@ pub onward-alike : (b : Box) (g : Ghosts) (c : Box) (s : Scans) → Alike b c �
 onward-alike b g c s a lb lc i = record { inv = i; calm = quiet-calm b (g .plan) c (g .plan) (quiet-alike b c (g .plan) a lb lc) }
 
 -- the tuples that wait are listed anew, and no mark is set
-pub relists : (b : Box) (g : Ghosts) (c : Box) (s : Scans) → Inv b g → Alike b c → b .state .phase ≤ 3 → c .state .phase ≤ 3 → Relisted b c (g .scans) s → Stage c (with-scans s g) → Onward b g c s
+pub relists : (b : Box) (g : Ghosts) (c : Box) (s : Scans) → Inv b g → Alike b c → b .state .phase ≤ 3 → c .state .phase ≤ 3
+    → Relisted b c (g .scans) s → Stage c (with-scans s g) → Onward b g c s
 relists b g c s i a lb lc r st =
     onward-alike b g c s a lb lc
     (inv-alike b g c s i a lb lc (rw (r .links-are) (i .handles .free-chain)) (marks-relisted b c (g .plan) (g .free) (g .scans) s a lb lc r (i .marks)) st)

@@ -63,17 +63,20 @@ begin-contents b g i e z roots =
     u : Unswept g
     u = finds-of b g (i .stage) e .unswept-yet
 
-    closed : (h : ℕ) → Kept c (g .plan) h → (k : ℕ) → k < size-of h b → names-tuple (word h (k + 1) b) ≡ true → Kept c (g .plan) (handle-of (word h (k + 1) b)) × (deep h b ≡ true)
+    closed : (h : ℕ) → Kept c (g .plan) h → (k : ℕ) → k < size-of h b → names-tuple (word h (k + 1) b) ≡ true
+        → Kept c (g .plan) (handle-of (word h (k + 1) b)) × (deep h b ≡ true)
     closed h x k l n =
         let y : Member h (g .plan .ahead) = kept-ahead c g h u x in
         let w : Kept b (g .plan) (handle-of (word h (k + 1) b)) × (deep h b ≡ true) = i .contents .words-kept h (unswept y (omega arith)) k l n in
         let t : marked (handle-of (word h (k + 1) b)) b ≡ true = i .marks .black (omega arith) h y (begin-marked b g h u x) (λ m. subst (λ (hs : List ℕ). Member h hs) (listed-none g (none-listed b g i e z)) m) k l n in
         (surviving (kept-ahead b g (handle-of (word h (k + 1) b)) u (w .0)) t, w .1)
 
-    inside : (h : ℕ) → Kept c (g .plan) h → (k : ℕ) → k < size-of h b → names-tuple (word h (k + 1) c) ≡ true → Kept c (g .plan) (handle-of (word h (k + 1) c)) × (deep h b ≡ true)
+    inside : (h : ℕ) → Kept c (g .plan) h → (k : ℕ) → k < size-of h b → names-tuple (word h (k + 1) c) ≡ true
+        → Kept c (g .plan) (handle-of (word h (k + 1) c)) × (deep h b ≡ true)
     inside h x k l = subst (λ (w : Word). names-tuple w ≡ true → Kept c (g .plan) (handle-of w) × (deep h b ≡ true)) (sym (word-alike b c (begin-alike b) (omega arith) (omega arith) h (k + 1))) (closed h x k l)
 
-pub begins-sweep-onward : (b : Box) (g : Ghosts) → Inv b g → b .state .phase ≡ 1 → b .state .next ≡ 0 → RootsMarked b → b .state .top ≢ 0 → Onward b g (begin-sweep b) (g .scans)
+pub begins-sweep-onward : (b : Box) (g : Ghosts) → Inv b g → b .state .phase ≡ 1 → b .state .next ≡ 0 → RootsMarked b → b .state .top ≢ 0
+    → Onward b g (begin-sweep b) (g .scans)
 unfolding begin-sweep
 begins-sweep-onward b g i e z roots t =
     record {

@@ -32,10 +32,12 @@ current-entry b g i n =
     ahead-entry b (g .plan) (g .free) y (i .handles) (i .marks .listed-ahead y (member-right y (g .scans .gray) (g .scans .nexts ++ g .scans .currents) (member-right y (g .scans .nexts) (g .scans .currents) first)))
 
 -- a register's tuple lies ahead, before the sweep
-pub root-ahead : (b : Box) (g : Ghosts) → Inv b g → b .state .phase ≤ 3 → (r : ℕ) → r < register-count → names-tuple (register r b) ≡ true → Member (handle-of (register r b)) (g .plan .ahead)
+pub root-ahead : (b : Box) (g : Ghosts) → Inv b g → b .state .phase ≤ 3 → (r : ℕ) → r < register-count → names-tuple (register r b) ≡ true
+    → Member (handle-of (register r b)) (g .plan .ahead)
 root-ahead b g i l r u n = kept-ahead b g (handle-of (register r b)) (unswept-of b g (i .stage) l) (i .contents .roots-kept r u n)
 
-pub root-entry : (b : Box) (g : Ghosts) → Inv b g → b .state .phase ≤ 3 → (r : ℕ) → r < register-count → names-tuple (register r b) ≡ true → (1 ≤ handle-of (register r b)) × (handle-of (register r b) < b .state .h)
+pub root-entry : (b : Box) (g : Ghosts) → Inv b g → b .state .phase ≤ 3 → (r : ℕ) → r < register-count → names-tuple (register r b) ≡ true
+    → (1 ≤ handle-of (register r b)) × (handle-of (register r b) < b .state .h)
 root-entry b g i l r u n = ahead-entry b (g .plan) (g .free) (handle-of (register r b)) (i .handles) (root-ahead b g i l r u n)
 
 pub tuple-entry : (b : Box) (g : Ghosts) → Inv b g → b .state .phase ≡ 3 → (1 ≤ b .state .tuple) × (b .state .tuple < b .state .h)
@@ -44,17 +46,20 @@ tuple-entry b g i e = ahead-entry b (g .plan) (g .free) (b .state .tuple) (i .ha
 -- ---- live
 
 -- before the sweep live leaves room for an unmarked tuple
-pub live-room : (b : Box) (g : Ghosts) → Inv b g → b .state .phase ≤ 3 → (h : ℕ) → Member h (g .plan .ahead) → marked h b ≡ false → b .state .live + size-of h b + 1 ≤ b .state .m
+pub live-room : (b : Box) (g : Ghosts) → Inv b g → b .state .phase ≤ 3 → (h : ℕ) → Member h (g .plan .ahead) → marked h b ≡ false
+    → b .state .live + size-of h b + 1 ≤ b .state .m
 unfolding rooms
 live-room b g i l h x t =
     let u : Unswept g = unswept-of b g (i .stage) l in
     let e : rooms b (g .plan .mid) ≡ 0 = ap (λ (hs : List ℕ). rooms b hs) (u .no-mid) in
     omega (arith, i .marks .live-is, u .low-zero, e, unmarked-room b (g .plan .ahead) h x t, laid-rooms b (g .plan .base) (g .plan .ahead) (b .state .top) (i .layout .ahead-laid), i .layout .top-fits)
 
-pub root-room : (b : Box) (g : Ghosts) → Inv b g → b .state .phase ≤ 3 → (r : ℕ) → r < register-count → names-tuple (register r b) ≡ true → marked (handle-of (register r b)) b ≡ false → b .state .live + size-of (handle-of (register r b)) b + 1 ≤ b .state .m
+pub root-room : (b : Box) (g : Ghosts) → Inv b g → b .state .phase ≤ 3 → (r : ℕ) → r < register-count → names-tuple (register r b) ≡ true
+    → marked (handle-of (register r b)) b ≡ false → b .state .live + size-of (handle-of (register r b)) b + 1 ≤ b .state .m
 root-room b g i l r u n t = live-room b g i l (handle-of (register r b)) (root-ahead b g i l r u n) t
 
-pub tuple-room : (b : Box) (g : Ghosts) → Inv b g → b .state .phase ≡ 3 → marked (b .state .tuple) b ≡ false → b .state .live + size-of (b .state .tuple) b + 1 ≤ b .state .m
+pub tuple-room : (b : Box) (g : Ghosts) → Inv b g → b .state .phase ≡ 3 → marked (b .state .tuple) b ≡ false
+    → b .state .live + size-of (b .state .tuple) b + 1 ≤ b .state .m
 tuple-room b g i e t = live-room b g i (omega arith) (b .state .tuple) (adding-of b g (i .stage) e .tuple-ahead) t
 
 -- ---- the word under the scan

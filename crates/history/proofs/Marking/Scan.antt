@@ -26,7 +26,8 @@ use Rattle.history.proofs.View.Boxes.{scanned-data-box, scanned-pointer
 -- ---- the tuple under the scan
 
 -- the word whose turn it is
-pub scanned-word : (b : Box) (g : Ghosts) (x : ℕ) → Scan b g x → b .state .phase ≤ 4 → (j : ℕ) → j ≡ b .state .index → word x j b ≡ word-at (b .state .src + b .state .index) b
+pub scanned-word : (b : Box) (g : Ghosts) (x : ℕ) → Scan b g x → b .state .phase ≤ 4 → (j : ℕ) → j ≡ b .state .index
+    → word x j b ≡ word-at (b .state .src + b .state .index) b
 scanned-word b g x s l j e =
     let v : b .state .phase < 5 = omega arith in
     let here : address x b + j ≡ b .state .src + b .state .index = omega (arith, s .src-is) in
@@ -42,7 +43,8 @@ abbrev Names : (ℕ → Type 0) → Word → Type 0
 Names P w = names-tuple w ≡ true → P (handle-of w)
 
 -- one word more has been looked at
-seen-more : (b : Box) (g : Ghosts) (x : ℕ) (P : ℕ → Type 0) → Scan b g x → b .state .phase ≤ 4 → ((k : ℕ) → k + 1 < b .state .index → Names P (word x (k + 1) b)) → Names P (word-at (b .state .src + b .state .index) b)
+seen-more : (b : Box) (g : Ghosts) (x : ℕ) (P : ℕ → Type 0) → Scan b g x → b .state .phase ≤ 4
+    → ((k : ℕ) → k + 1 < b .state .index → Names P (word x (k + 1) b)) → Names P (word-at (b .state .src + b .state .index) b)
     → (k : ℕ) → k + 1 < b .state .index + 1 → Names P (word x (k + 1) b)
 seen-more b g x P s l f last k u = go (ℕ-discrete (k + 1) (b .state .index))
   where
@@ -72,7 +74,8 @@ alike-phase b c p a =
     }
 
 -- the tuples that wait stay as they are, and the collector's place in the scan alone changes
-relisted-same : (b : Box) (g : Ghosts) (c : Box) → Inv b g → c .links ≡ b .links → c .marks ≡ b .marks → c .state .live ≡ b .state .live → c .state .next ≡ b .state .next → c .state .current ≡ b .state .current → Relisted b c (g .scans) (g .scans)
+relisted-same : (b : Box) (g : Ghosts) (c : Box) → Inv b g → c .links ≡ b .links → c .marks ≡ b .marks → c .state .live ≡ b .state .live
+    → c .state .next ≡ b .state .next → c .state .current ≡ b .state .current → Relisted b c (g .scans) (g .scans)
 relisted-same b g c i ln mk lv nx cr =
     record {
       links-are = ln;
@@ -87,7 +90,8 @@ relisted-same b g c i ln mk lv nx cr =
 
 -- ---- 2 Mark scan
 
-pub scans-data-onward : (b : Box) (g : Ghosts) → Inv b g → b .state .phase ≡ 2 → b .state .index ≤ b .state .size → names-tuple (word-at (b .state .src + b .state .index) b) ≡ false
+pub scans-data-onward : (b : Box) (g : Ghosts) → Inv b g → b .state .phase ≡ 2 → b .state .index ≤ b .state .size
+    → names-tuple (word-at (b .state .src + b .state .index) b) ≡ false
     → Onward b g (scanned-data-box b) (g .scans)
 scans-data-onward b g i e l n =
     relists b g c (g .scans) i alike (omega arith) (omega arith) (relisted-same b g c i refl refl refl refl refl)
@@ -117,10 +121,12 @@ scans-data-onward b g i e l n =
     seen : (k : ℕ) → k + 1 < b .state .index + 1 → names-tuple (word x (k + 1) c) ≡ true → marked (handle-of (word x (k + 1) c)) b ≡ true
     seen k u = subst (λ (w : Word). Names (λ y. marked y b ≡ true) w) (sym (word-alike b c alike (omega arith) (omega arith) x (k + 1))) (seen-more b g x (λ y. marked y b ≡ true) s (omega arith) (f .seen) (λ t. absurd (false≢true (sym n ∙ t))) k u)
 
-pub scans-data : (b : Box) (g : Ghosts) → Inv b g → b .state .phase ≡ 2 → b .state .index ≤ b .state .size → names-tuple (word-at (b .state .src + b .state .index) b) ≡ false → Next b g (scanned-data-box b)
+pub scans-data : (b : Box) (g : Ghosts) → Inv b g → b .state .phase ≡ 2 → b .state .index ≤ b .state .size
+    → names-tuple (word-at (b .state .src + b .state .index) b) ≡ false → Next b g (scanned-data-box b)
 scans-data b g i e l n = onward-next b g (scanned-data-box b) (g .scans) (scans-data-onward b g i e l n)
 
-pub scans-pointer-onward : (b : Box) (g : Ghosts) → Inv b g → b .state .phase ≡ 2 → b .state .index ≤ b .state .size → names-tuple (word-at (b .state .src + b .state .index) b) ≡ true
+pub scans-pointer-onward : (b : Box) (g : Ghosts) → Inv b g → b .state .phase ≡ 2 → b .state .index ≤ b .state .size
+    → names-tuple (word-at (b .state .src + b .state .index) b) ≡ true
     → Onward b g (scanned-pointer-box b) (g .scans)
 scans-pointer-onward b g i e l n =
     relists b g c (g .scans) i alike (omega arith) (omega arith) (relisted-same b g c i refl refl refl refl refl)
@@ -163,10 +169,12 @@ scans-pointer-onward b g i e l n =
         (subst (λ (v : Word). Kept b (g .plan) (handle-of v)) w
         (i .contents .words-kept x (unswept (scanned-ahead b g x i s) (omega arith)) (b .state .index - 1) (omega (arith, s .index-least, s .size-is)) (subst (λ (v : Word). names-tuple v ≡ true) (sym w) n) .0))
 
-    seen : (k : ℕ) → k + 1 < b .state .index + 1 → names-tuple (word x (k + 1) c) ≡ true → (marked (handle-of (word x (k + 1) c)) b ≡ true) ⊎ (handle-of (word x (k + 1) c) ≡ y)
+    seen : (k : ℕ) → k + 1 < b .state .index + 1 → names-tuple (word x (k + 1) c) ≡ true
+        → (marked (handle-of (word x (k + 1) c)) b ≡ true) ⊎ (handle-of (word x (k + 1) c) ≡ y)
     seen k u = subst (λ (v : Word). Names (λ z. (marked z b ≡ true) ⊎ (z ≡ y)) v) (sym (word-alike b c alike (omega arith) (omega arith) x (k + 1))) (seen-more b g x (λ z. (marked z b ≡ true) ⊎ (z ≡ y)) s (omega arith) (λ j v t. inl (f .seen j v t)) (λ t. inr refl) k u)
 
-pub scans-pointer : (b : Box) (g : Ghosts) → Inv b g → b .state .phase ≡ 2 → b .state .index ≤ b .state .size → names-tuple (word-at (b .state .src + b .state .index) b) ≡ true → Next b g (scanned-pointer-box b)
+pub scans-pointer : (b : Box) (g : Ghosts) → Inv b g → b .state .phase ≡ 2 → b .state .index ≤ b .state .size
+    → names-tuple (word-at (b .state .src + b .state .index) b) ≡ true → Next b g (scanned-pointer-box b)
 scans-pointer b g i e l n = onward-next b g (scanned-pointer-box b) (g .scans) (scans-pointer-onward b g i e l n)
 
 -- a tuple scanned to its end
@@ -181,7 +189,8 @@ listed-scan b g x cs s e = rw (s .gray-is, e)
 abbrev pub from-scan : Scans → Scans
 from-scan s = record { nexts = s .nexts; currents = []; gray = [] }
 
-pub scan-ends-onward : (b : Box) (g : Ghosts) → Inv b g → b .state .phase ≡ 2 → b .state .size < b .state .index → b .state .current ≡ 0 → Onward b g (to-phase 1 b) (from-scan (g .scans))
+pub scan-ends-onward : (b : Box) (g : Ghosts) → Inv b g → b .state .phase ≡ 2 → b .state .size < b .state .index → b .state .current ≡ 0
+    → Onward b g (to-phase 1 b) (from-scan (g .scans))
 scan-ends-onward b g i e l z =
     relists b g (to-phase 1 b) left i (alike-state b (to-phase 1 b .state) refl refl refl refl refl refl refl refl) (omega arith) (omega arith)
     (record {
@@ -246,7 +255,8 @@ takes-current-onward b g i e l n = go (chain-head (b .links) (b .state .current)
     dark tl h o (inl q) = subst (λ (z : ℕ). Black b z) (sym q) (scanned-black b g f l)
     dark tl h o (inr m) = absurd (o (perm-member (perm-shift y (g .scans .nexts) tl) h m))
 
-    go : (tl : List ℕ) × (g .scans .currents ≡ y ∷ tl) × Chain (b .links) (getD (b .links) y 0) tl → (tl : List ℕ) × (g .scans .currents ≡ y ∷ tl) × Onward b g (scan y b) (left tl)
+    go : (tl : List ℕ) × (g .scans .currents ≡ y ∷ tl) × Chain (b .links) (getD (b .links) y 0) tl
+        → (tl : List ℕ) × (g .scans .currents ≡ y ∷ tl) × Onward b g (scan y b) (left tl)
     go c =
         let tl : List ℕ = c .0 in (
           tl,
@@ -271,7 +281,8 @@ takes-current-onward b g i e l n = go (chain-head (b .links) (b .state .current)
               }) (λ k u t. absurd (omega arith))),
         )
 
-pub takes-current : (b : Box) (g : Ghosts) → Inv b g → b .state .phase ≡ 2 → b .state .size < b .state .index → b .state .current ≢ 0 → Next b g (scan (b .state .current) b)
+pub takes-current : (b : Box) (g : Ghosts) → Inv b g → b .state .phase ≡ 2 → b .state .size < b .state .index → b .state .current ≢ 0
+    → Next b g (scan (b .state .current) b)
 takes-current b g i e l n = let o = takes-current-onward b g i e l n in onward-next b g (scan (b .state .current) b) (from-current (b .state .current) (o .0) (g .scans)) (o .2)
 
 -- ---- 3 Mark add
@@ -310,7 +321,8 @@ pub adds-marked : (b : Box) (g : Ghosts) → Inv b g → b .state .phase ≡ 3 �
 adds-marked b g i e t = onward-next b g (to-phase 2 b) (g .scans) (adds-marked-onward b g i e t)
 
 -- marked or not, `tuple` is shaded first
-pub adds-onward : (b : Box) (g : Ghosts) → Inv b g → b .state .phase ≡ 3 → Onward b g (to-phase 2 (shade (b .state .tuple) b)) (shade-scans (b .state .tuple) b (g .scans))
+pub adds-onward : (b : Box) (g : Ghosts) → Inv b g → b .state .phase ≡ 3
+    → Onward b g (to-phase 2 (shade (b .state .tuple) b)) (shade-scans (b .state .tuple) b (g .scans))
 adds-onward b g i e =
     let y : ℕ = b .state .tuple in
     let s : Scans = shade-scans y b (g .scans) in

@@ -40,7 +40,8 @@ shaded : (h : ℕ) (b : Box) (s : Scans) → ShadeCase h b s (shade h b) (shade-
 unfolding shade shade-scans
 shaded h b s = go (marked h b) (deep h b) refl refl
   where
-    go : (t d : Bool) → marked h b ≡ t → deep h b ≡ d → ShadeCase h b s (cond (marked h b) b (cond (deep h b) (list-next h (mark-live h b)) (mark-live h b))) (cond (marked h b) s (cond (deep h b) (push h s) s))
+    go : (t d : Bool) → marked h b ≡ t → deep h b ≡ d
+        → ShadeCase h b s (cond (marked h b) b (cond (deep h b) (list-next h (mark-live h b)) (mark-live h b))) (cond (marked h b) s (cond (deep h b) (push h s) s))
     go true d e f = rw e (already e)
     go false true e f = rw (e, f) (listing e f)
     go false false e f = rw (e, f) (counting e f)
@@ -152,7 +153,8 @@ shaded-others {h} {b} (listing e f) k n = getD-set-other (b .marks) h k true fal
 shaded-others {h} {b} (counting e f) k n = getD-set-other (b .marks) h k true false n
 
 -- a list that h is not on
-shaded-chain : {h : ℕ} {b : Box} {s : Scans} {c : Box} {s′ : Scans} → ShadeCase h b s c s′ → (head : ℕ) (hs : List ℕ) → ¬ Member h hs → Chain (b .links) head hs → Chain (c .links) head hs
+shaded-chain : {h : ℕ} {b : Box} {s : Scans} {c : Box} {s′ : Scans} → ShadeCase h b s c s′ → (head : ℕ) (hs : List ℕ) → ¬ Member h hs
+    → Chain (b .links) head hs → Chain (c .links) head hs
 unfolding list-next mark-live
 shaded-chain (already e) head hs n ch = ch
 shaded-chain {h} {b} (listing e f) head hs n ch = chain-set-other (b .links) head hs h (b .state .next) n ch
@@ -271,7 +273,8 @@ scan-numbers b g c s x a k e i =
       index-most = rw (k .index-is, k .size-is) (i .index-most);
     }
 
-shaded-stage : {h : ℕ} {b : Box} {c : Box} {s′ : Scans} (g : Ghosts) → ShadeCase h b (g .scans) c s′ → h < length (b .marks) → 1 ≤ b .state .phase → b .state .phase ≤ 3 → Stage b g → Stage c (with-scans s′ g)
+shaded-stage : {h : ℕ} {b : Box} {c : Box} {s′ : Scans} (g : Ghosts) → ShadeCase h b (g .scans) c s′ → h < length (b .marks)
+    → 1 ≤ b .state .phase → b .state .phase ≤ 3 → Stage b g → Stage c (with-scans s′ g)
 shaded-stage {h} {b} {c} {s′} g sh l v w st = go st
   where
     a : Alike b c
@@ -291,8 +294,10 @@ shaded-stage {h} {b} {c} {s′} g sh l v w st = go st
     kept y (inl t) = inl (shaded-keeps sh l y t)
     kept y (inr e) = inr (e ∙ sym (k .tuple-is))
 
-    seen-yet : (x : ℕ) → ((k : ℕ) → k + 1 < b .state .index → names-tuple (word x (k + 1) b) ≡ true → (marked (handle-of (word x (k + 1) b)) b ≡ true) ⊎ (handle-of (word x (k + 1) b) ≡ b .state .tuple))
-        → (k : ℕ) → k + 1 < c .state .index → names-tuple (word x (k + 1) c) ≡ true → (marked (handle-of (word x (k + 1) c)) c ≡ true) ⊎ (handle-of (word x (k + 1) c) ≡ c .state .tuple)
+    seen-yet : (x : ℕ)
+        → ((k : ℕ) → k + 1 < b .state .index → names-tuple (word x (k + 1) b) ≡ true → (marked (handle-of (word x (k + 1) b)) b ≡ true) ⊎ (handle-of (word x (k + 1) b) ≡ b .state .tuple))
+        → (k : ℕ) → k + 1 < c .state .index → names-tuple (word x (k + 1) c) ≡ true
+        → (marked (handle-of (word x (k + 1) c)) c ≡ true) ⊎ (handle-of (word x (k + 1) c) ≡ c .state .tuple)
     seen-yet x f j u n = subst (λ (z : Word). (marked (handle-of z) c ≡ true) ⊎ (handle-of z ≡ c .state .tuple)) (sym (same x (j + 1))) (kept (handle-of (word x (j + 1) b)) (f j (subst (λ (z : ℕ). j + 1 < z) (k .index-is) u) (subst (λ (z : Word). names-tuple z ≡ true) (same x (j + 1)) n)))
 
     go : Stage b g → Stage c (with-scans s′ g)
@@ -325,14 +330,17 @@ shade-free h b p free i x = shaded-chain (shaded h b none-wait) (b .state .free)
 pub shade-quiet : (h : ℕ) (b : Box) (p : Plan) → b .state .phase ≤ 3 → Quiet b p (shade h b) p
 shade-quiet h b p l = quiet-alike b (shade h b) p (shade-alike h b) l (rw (shade-numbers h b .phase-is) l)
 
-pub shade-marks : (h : ℕ) (b : Box) (p : Plan) (free : List ℕ) (s : Scans) → Shape b → Handles b p free → Contents b p → Member h (p .ahead) → b .state .phase ≤ 3 → Marks b p free s → Marks (shade h b) p free (shade-scans h b s)
+pub shade-marks : (h : ℕ) (b : Box) (p : Plan) (free : List ℕ) (s : Scans) → Shape b → Handles b p free → Contents b p → Member h (p .ahead)
+    → b .state .phase ≤ 3 → Marks b p free s → Marks (shade h b) p free (shade-scans h b s)
 shade-marks h b p free s sp hd ct x l i = shaded-marks p free (shaded h b s) sp hd ct x (ahead-entry b p free h hd x .1) l i
 
-pub shade-stage : (h : ℕ) (b : Box) (g : Ghosts) → Shape b → h < b .state .h → 1 ≤ b .state .phase → b .state .phase ≤ 3 → Stage b g → Stage (shade h b) (with-scans (shade-scans h b (g .scans)) g)
+pub shade-stage : (h : ℕ) (b : Box) (g : Ghosts) → Shape b → h < b .state .h → 1 ≤ b .state .phase → b .state .phase ≤ 3 → Stage b g
+    → Stage (shade h b) (with-scans (shade-scans h b (g .scans)) g)
 shade-stage h b g sp l = shaded-stage g (shaded h b (g .scans)) (subst (λ (n : ℕ). h < n) (sym (sp .marks-length)) l)
 
 -- all of it, in phase 1, 2 or 3
-pub shade-inv : (h : ℕ) (b : Box) (g : Ghosts) → Inv b g → Member h (g .plan .ahead) → 1 ≤ b .state .phase → b .state .phase ≤ 3 → Inv (shade h b) (with-scans (shade-scans h b (g .scans)) g)
+pub shade-inv : (h : ℕ) (b : Box) (g : Ghosts) → Inv b g → Member h (g .plan .ahead) → 1 ≤ b .state .phase → b .state .phase ≤ 3
+    → Inv (shade h b) (with-scans (shade-scans h b (g .scans)) g)
 shade-inv h b g i x v w =
     inv-alike b g (shade h b) (shade-scans h b (g .scans)) i (shade-alike h b) w (rw (shade-numbers h b .phase-is) w) (shade-free h b (g .plan) (g .free) (i .handles) x)
     (shade-marks h b (g .plan) (g .free) (g .scans) (i .shape) (i .handles) (i .contents) x w (i .marks))

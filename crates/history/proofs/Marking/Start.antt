@@ -63,14 +63,16 @@ listed-next g h hs n c y = rw (y, n, c) (ap (λ (ks : List ℕ). h ∷ ks) (appe
 abbrev pub next-taken : Box → Box
 next-taken b = scan (b .state .next) (with-state (with-next 0 (b .state)) b)
 
-pub takes-next-onward : (b : Box) (g : Ghosts) → Inv b g → b .state .phase ≡ 1 → b .state .next ≢ 0 → (tl : List ℕ) × (g .scans .nexts ≡ b .state .next ∷ tl) × Onward b g (next-taken b) (from-next (b .state .next) tl)
+pub takes-next-onward : (b : Box) (g : Ghosts) → Inv b g → b .state .phase ≡ 1 → b .state .next ≢ 0
+    → (tl : List ℕ) × (g .scans .nexts ≡ b .state .next ∷ tl) × Onward b g (next-taken b) (from-next (b .state .next) tl)
 unfolding scan
 takes-next-onward b g i e n = go (chain-head (b .links) (b .state .next) (g .scans .nexts) (i .marks .nexts-chain) n)
   where
     f : Finds b g
     f = finds-of b g (i .stage) e
 
-    go : (tl : List ℕ) × (g .scans .nexts ≡ b .state .next ∷ tl) × Chain (b .links) (getD (b .links) (b .state .next) 0) tl → (tl : List ℕ) × (g .scans .nexts ≡ b .state .next ∷ tl) × Onward b g (next-taken b) (from-next (b .state .next) tl)
+    go : (tl : List ℕ) × (g .scans .nexts ≡ b .state .next ∷ tl) × Chain (b .links) (getD (b .links) (b .state .next) 0) tl
+        → (tl : List ℕ) × (g .scans .nexts ≡ b .state .next ∷ tl) × Onward b g (next-taken b) (from-next (b .state .next) tl)
     go c =
         let tl : List ℕ = c .0 in
         let same : listed (g .scans) ≡ b .state .next ∷ tl = listed-next g (b .state .next) tl (c .1) (f .no-currents) (f .no-gray) in (
@@ -99,11 +101,14 @@ takes-next-onward b g i e n = go (chain-head (b .links) (b .state .next) (g .sca
 pub takes-next : (b : Box) (g : Ghosts) → Inv b g → b .state .phase ≡ 1 → b .state .next ≢ 0 → Next b g (next-taken b)
 takes-next b g i e n = let o = takes-next-onward b g i e n in onward-next b g (next-taken b) (from-next (b .state .next) (o .0)) (o .2)
 
-pub shades-root-onward : (b : Box) (g : Ghosts) → Inv b g → b .state .phase ≡ 1 → (r : ℕ) → r < register-count → names-tuple (register r b) ≡ true → Onward b g (shade (handle-of (register r b)) b) (shade-scans (handle-of (register r b)) b (g .scans))
+pub shades-root-onward : (b : Box) (g : Ghosts) → Inv b g → b .state .phase ≡ 1 → (r : ℕ) → r < register-count
+    → names-tuple (register r b) ≡ true
+    → Onward b g (shade (handle-of (register r b)) b) (shade-scans (handle-of (register r b)) b (g .scans))
 shades-root-onward b g i e r l n =
     let h : ℕ = handle-of (register r b) in
     onward-alike b g (shade h b) (shade-scans h b (g .scans)) (shade-alike h b) (omega arith) (omega (arith, shade-numbers h b .phase-is))
     (shade-inv h b g i (kept-ahead b g h (finds-of b g (i .stage) e .unswept-yet) (i .contents .roots-kept r l n)) (omega arith) (omega arith))
 
-pub shades-root : (b : Box) (g : Ghosts) → Inv b g → b .state .phase ≡ 1 → (r : ℕ) → r < register-count → names-tuple (register r b) ≡ true → Next b g (shade (handle-of (register r b)) b)
+pub shades-root : (b : Box) (g : Ghosts) → Inv b g → b .state .phase ≡ 1 → (r : ℕ) → r < register-count → names-tuple (register r b) ≡ true
+    → Next b g (shade (handle-of (register r b)) b)
 shades-root b g i e r l n = onward-next b g (shade (handle-of (register r b)) b) (shade-scans (handle-of (register r b)) b (g .scans)) (shades-root-onward b g i e r l n)

@@ -20,7 +20,8 @@ use Rattle.history.proofs.View.Boxes.{cleared-box}
 elsewhere : (b : Box) (a : ℕ) → a ≢ b .state .src + b .state .index → word-at a (cleared-box b) ≡ word-at a b
 elsewhere b a n = put-other (b .state .src + b .state .index) (data-word 0) b a n
 
-clears-words : (b : Box) (g : Ghosts) → Move b g → b .state .phase ≡ 6 → (i : ℕ) → i ≤ b .state .size → word (b .state .tuple) i (cleared-box b) ≡ word (b .state .tuple) i b
+clears-words : (b : Box) (g : Ghosts) → Move b g → b .state .phase ≡ 6 → (i : ℕ) → i ≤ b .state .size
+    → word (b .state .tuple) i (cleared-box b) ≡ word (b .state .tuple) i b
 clears-words b g m p i l = go (turn i (b .state .index))
   where
     go : Turn i (b .state .index) → word (b .state .tuple) i (cleared-box b) ≡ word (b .state .tuple) i b
@@ -60,7 +61,8 @@ clears-within b g m p l =
       words-moved = clears-words b g m p;
     }
 
-clears-zero : (b : Box) (z : ℕ) → b .state .src + b .state .index < length (b .words) → b .state .src + b .state .index < length (b .flags) → z ≡ b .state .src + b .state .index → Zero b z → Zero (cleared-box b) (b .state .src + b .state .index + 1)
+clears-zero : (b : Box) (z : ℕ) → b .state .src + b .state .index < length (b .words) → b .state .src + b .state .index < length (b .flags)
+    → z ≡ b .state .src + b .state .index → Zero b z → Zero (cleared-box b) (b .state .src + b .state .index + 1)
 clears-zero b z f k e s =
     record {
       above-top = λ a u. go a (s .above-top a u) (ℕ-discrete a (b .state .src + b .state .index));

@@ -13,7 +13,8 @@ use Rattle.history.proofs.Moving.Within.{Within, within}
 use Rattle.history.proofs.Invariant.Stages.{AtRead, at-read}
 use Rattle.history.proofs.View.Boxes.{copied-box}
 
-copies-words : (p : ℕ) (b : Box) (g : Ghosts) → Move b g → b .state .phase ≡ 5 → 6 ≤ p → p ≤ 7 → (i : ℕ) → word (b .state .tuple) i (copied-box p b) ≡ word (b .state .tuple) i b
+copies-words : (p : ℕ) (b : Box) (g : Ghosts) → Move b g → b .state .phase ≡ 5 → 6 ≤ p → p ≤ 7 → (i : ℕ)
+    → word (b .state .tuple) i (copied-box p b) ≡ word (b .state .tuple) i b
 copies-words p b g m q l u i = go (turn i (b .state .index))
   where
     go : Turn i (b .state .index) → word (b .state .tuple) i (copied-box p b) ≡ word (b .state .tuple) i b
@@ -58,7 +59,8 @@ copies-zero : (p : ℕ) (b : Box) (z y : ℕ) → ((a : ℕ) → b .state .live 
 copies-zero p b z y f s = record { above-top = s .above-top; behind = λ a l u. s .behind a l (f a l u) }
 
 -- below live: to phase 7
-pub copies-low : (b : Box) (g : Ghosts) → Inv b g → b .state .phase ≡ 5 → b .state .index ≤ b .state .size → b .state .src + b .state .index < b .state .live → Next b g (copied-box 7 b)
+pub copies-low : (b : Box) (g : Ghosts) → Inv b g → b .state .phase ≡ 5 → b .state .index ≤ b .state .size
+    → b .state .src + b .state .index < b .state .live → Next b g (copied-box 7 b)
 copies-low b g v p l u =
     let s : AtRead b g = at-read b g (v .stage) p in
     within b (copied-box 7 b) g (b .state .src + b .state .index + 1) v (s .move)
@@ -67,7 +69,8 @@ copies-low b g v p l u =
     (λ m. writing refl m l refl)
 
 -- from live on: to phase 6
-pub copies-high : (b : Box) (g : Ghosts) → Inv b g → b .state .phase ≡ 5 → b .state .index ≤ b .state .size → b .state .live ≤ b .state .src + b .state .index → Next b g (copied-box 6 b)
+pub copies-high : (b : Box) (g : Ghosts) → Inv b g → b .state .phase ≡ 5 → b .state .index ≤ b .state .size
+    → b .state .live ≤ b .state .src + b .state .index → Next b g (copied-box 6 b)
 copies-high b g v p l u =
     let s : AtRead b g = at-read b g (v .stage) p in
     within b (copied-box 6 b) g (b .state .src + b .state .index) v (s .move)

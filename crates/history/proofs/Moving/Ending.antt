@@ -76,7 +76,8 @@ rest-phase c = refl
 no-ahead : (b : Box) (g : Ghosts) → Inv b g → Move b g → b .state .src + b .state .size + 1 ≡ b .state .top → g .plan .ahead ≡ []
 no-ahead b g v m e = laid-none b (g .plan .base) (g .plan .ahead) (b .state .top) (v .layout .ahead-laid) (m .base-is ∙ e)
 
-ends-quiet : (b c : Box) (g : Ghosts) → Inv b g → Written b g → Settles b c → c .state .phase ≡ 0 → g .plan .ahead ≡ [] → Quiet b (g .plan) c (resting-plan (settled-now b g))
+ends-quiet : (b c : Box) (g : Ghosts) → Inv b g → Written b g → Settles b c → c .state .phase ≡ 0 → g .plan .ahead ≡ []
+    → Quiet b (g .plan) c (resting-plan (settled-now b g))
 ends-quiet b c g v t w p e =
     record {
       kept-to = to;
@@ -113,14 +114,16 @@ live-ends b g v m e =
     let z : marked-rooms b (g .plan .ahead) ≡ 0 = ap (marked-rooms b) e in
     omega arith
 
-ends-zero : (b c : Box) (g : Ghosts) → Inv b g → Settles b c → b .state .live ≡ b .state .dest + b .state .size + 1 → g .zeroed ≡ b .state .top → (a : ℕ) → b .state .dest + b .state .size + 1 ≤ a → word-at a c ≡ data-word 0
+ends-zero : (b c : Box) (g : Ghosts) → Inv b g → Settles b c → b .state .live ≡ b .state .dest + b .state .size + 1
+    → g .zeroed ≡ b .state .top → (a : ℕ) → b .state .dest + b .state .size + 1 ≤ a → word-at a c ≡ data-word 0
 ends-zero b c g v w l z a u = word-same b c w a ∙ go (decLe (b .state .top) a)
   where
     go : Dec (b .state .top ≤ a) → word-at a b ≡ data-word 0
     go (yes t) = v .zero-words .above-top a t
     go (no n) = v .zero-words .behind a (omega arith) (omega arith)
 
-ends-box : (b c : Box) (g : Ghosts) → Inv b g → Written b g → Ends b c → g .zeroed ≡ b .state .top → b .state .src + b .state .size + 1 ≡ b .state .top → Finished c (settled-now b g) (g .free)
+ends-box : (b c : Box) (g : Ghosts) → Inv b g → Written b g → Ends b c → g .zeroed ≡ b .state .top
+    → b .state .src + b .state .size + 1 ≡ b .state .top → Finished c (settled-now b g) (g .free)
 ends-box b c g v t w z e =
     let s : Settles b c = w .settles in
     let f : Bounds b g = bounds b g v (t .move) in

@@ -128,7 +128,8 @@ leaves-marks b c g v t w =
     late : c .state .phase ≤ 3 → ⊥
     late l = omega (arith, w .phase-is)
 
-leaves-stage : (b c : Box) (g : Ghosts) → Inv b g → Written b g → Leaves b c → g .zeroed ≡ b .state .src + b .state .size + 1 → b .state .src + b .state .size + 1 ≢ b .state .top → Stage c (left-ghosts b g)
+leaves-stage : (b c : Box) (g : Ghosts) → Inv b g → Written b g → Leaves b c → g .zeroed ≡ b .state .src + b .state .size + 1
+    → b .state .src + b .state .size + 1 ≢ b .state .top → Stage c (left-ghosts b g)
 leaves-stage b c g v t w z n =
     let f : Front c (b .state .src + b .state .size + 1) (g .plan .ahead) (b .state .top) = laid-front c (b .state .src + b .state .size + 1) (g .plan .ahead) (b .state .top) (settles-ahead b c g v (t .move) (w .settles)) n in
     sweeping (w .phase-is)
@@ -140,7 +141,8 @@ leaves-stage b c g v t w z n =
     (f .rest)
     (f .is-cons ∙ ap (λ (h : ℕ). h ∷ f .rest) (f .named ∙ sym (w .tuple-is)))
 
-leaves-inv : (b c : Box) (g : Ghosts) → Inv b g → Written b g → Leaves b c → g .zeroed ≡ b .state .src + b .state .size + 1 → b .state .src + b .state .size + 1 ≢ b .state .top → Next b g c
+leaves-inv : (b c : Box) (g : Ghosts) → Inv b g → Written b g → Leaves b c → g .zeroed ≡ b .state .src + b .state .size + 1
+    → b .state .src + b .state .size + 1 ≢ b .state .top → Next b g c
 leaves-inv b c g v t w z n =
     let q : Quiet b (g .plan) c (left-plan b g) = leaves-quiet b c g v t w in
     record {
@@ -157,7 +159,8 @@ leaves-inv b c g v t w z n =
       calm = quiet-calm b (g .plan) c (left-plan b g) q;
     }
 
-pub moves-on : (b : Box) (g : Ghosts) → Inv b g → b .state .phase ≡ 5 → b .state .size < b .state .index → b .state .src + b .state .size + 1 ≢ b .state .top → Next b g (moved-box b)
+pub moves-on : (b : Box) (g : Ghosts) → Inv b g → b .state .phase ≡ 5 → b .state .size < b .state .index
+    → b .state .src + b .state .size + 1 ≢ b .state .top → Next b g (moved-box b)
 moves-on b g v p l n =
     let s : AtRead b g = at-read b g (v .stage) p in
     leaves-inv b (moved-box b) g v (record { move = s .move; in-phase = p; all-written = l }) (leaves b) (omega arith) n

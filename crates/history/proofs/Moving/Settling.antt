@@ -106,7 +106,8 @@ settles-ahead b c g v m w = subst (λ (a : ℕ). Laid c a (g .plan .ahead) (b .s
 
 -- ---- the words of the kept tuples
 
-pub settles-words : (b c : Box) (g : Ghosts) → Inv b g → Written b g → Settles b c → c .state .phase < 5 → (h : ℕ) → Kept b (g .plan) h → (i : ℕ) → i ≤ size-of h b → word h i c ≡ word h i b
+pub settles-words : (b c : Box) (g : Ghosts) → Inv b g → Written b g → Settles b c → c .state .phase < 5 → (h : ℕ) → Kept b (g .plan) h
+    → (i : ℕ) → i ≤ size-of h b → word h i c ≡ word h i b
 settles-words b c g v t w p h k i l = place (lies b g v (t .move) h k)
   where
     elsewhere : h ≢ b .state .tuple → word h i c ≡ word h i b

@@ -19,11 +19,14 @@ elsewhere : (b : Box) (a : ℕ) → a ≢ b .state .dest + b .state .index → w
 unfolding write-copy
 elsewhere b a n = put-other (b .state .dest + b .state .index) (copy-register b) b a n
 
-here : (b : Box) → b .state .dest + b .state .index < length (b .words) → b .state .dest + b .state .index < length (b .flags) → word-at (b .state .dest + b .state .index) (write-copy b) ≡ copy-register b
+here : (b : Box) → b .state .dest + b .state .index < length (b .words) → b .state .dest + b .state .index < length (b .flags)
+    → word-at (b .state .dest + b .state .index) (write-copy b) ≡ copy-register b
 unfolding write-copy
 here b l u = put-same (b .state .dest + b .state .index) (copy-register b) b l u
 
-writes-words : (b : Box) (g : Ghosts) → Move b g → b .state .phase ≡ 7 → word-at (b .state .dest + b .state .index) (write-copy b) ≡ copy-register b → (i : ℕ) → word (b .state .tuple) i (write-copy b) ≡ word (b .state .tuple) i b
+writes-words : (b : Box) (g : Ghosts) → Move b g → b .state .phase ≡ 7
+    → word-at (b .state .dest + b .state .index) (write-copy b) ≡ copy-register b → (i : ℕ)
+    → word (b .state .tuple) i (write-copy b) ≡ word (b .state .tuple) i b
 unfolding write-copy
 writes-words b g m p w i = go (turn i (b .state .index))
   where
@@ -32,7 +35,8 @@ writes-words b g m p w i = go (turn i (b .state .index))
     go (now e) = word-moved (b .state .tuple) i (write-copy b) refl (omega arith) (omega arith) (omega arith) ∙ ap (λ (j : ℕ). word-at (b .state .dest + j) (write-copy b)) e ∙ w ∙ sym (word-copied (b .state .tuple) i b refl (omega arith) (omega arith) e)
     go (later e) = word-unread (b .state .tuple) i (write-copy b) (omega arith) (omega arith) ∙ elsewhere b (address (b .state .tuple) b + i) (omega (arith, m .src-is, m .downward)) ∙ sym (word-unmoved (b .state .tuple) i b e)
 
-writes-within : (b : Box) (g : Ghosts) → Move b g → b .state .phase ≡ 7 → b .state .index ≤ b .state .size → word-at (b .state .dest + b .state .index) (write-copy b) ≡ copy-register b → Within b (write-copy b)
+writes-within : (b : Box) (g : Ghosts) → Move b g → b .state .phase ≡ 7 → b .state .index ≤ b .state .size
+    → word-at (b .state .dest + b .state .index) (write-copy b) ≡ copy-register b → Within b (write-copy b)
 unfolding write-copy
 writes-within b g m p l w =
     record {
@@ -69,7 +73,8 @@ writes-zero : (b : Box) (z : ℕ) → b .state .dest + b .state .index < b .stat
 unfolding write-copy
 writes-zero b z l t s = record { above-top = λ a u. elsewhere b a (omega arith) ∙ s .above-top a u; behind = λ a u x. elsewhere b a (omega arith) ∙ s .behind a u x }
 
-writes-stage : (b : Box) (g : Ghosts) (z : ℕ) → b .state .index ≤ b .state .size → z ≡ b .state .src + b .state .index + 1 → Move (write-copy b) (zeroed-to z g) → Stage (write-copy b) (zeroed-to z g)
+writes-stage : (b : Box) (g : Ghosts) (z : ℕ) → b .state .index ≤ b .state .size → z ≡ b .state .src + b .state .index + 1
+    → Move (write-copy b) (zeroed-to z g) → Stage (write-copy b) (zeroed-to z g)
 unfolding write-copy
 writes-stage b g z l e m = reading refl m (omega arith) (omega arith)
 

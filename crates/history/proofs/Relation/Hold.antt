@@ -25,7 +25,8 @@ use Rattle.history.proofs.Asking.Registers.{hold-quiet, unheld-quiet}
 
 -- ---- both sides
 
-pub related-with-hold : (o : Option Asked) (b : Box) (p : Plan) (m : History) (given : List ℕ) (number : ℕ → ℕ) → Related b p m given number → Related b p (with-hold o m) given number
+pub related-with-hold : (o : Option Asked) (b : Box) (p : Plan) (m : History) (given : List ℕ) (number : ℕ → ℕ) → Related b p m given number
+    → Related b p (with-hold o m) given number
 related-with-hold o b p m given number s =
     record {
       roots-match = s .roots-match;
@@ -42,7 +43,8 @@ related-with-hold o b p m given number s =
         record { number-made = y .number-made; handle-given = y .handle-given; size-same = y .size-same; tag-same = y .tag-same; words-match = y .words-match }
 
 -- a GETM answered 7
-pub related-hold : (r n t : ℕ) (b : Box) (p : Plan) (m : History) (given : List ℕ) (number : ℕ → ℕ) → Related b p m given number → Related (hold r n t b) p (hold-request (Getm r n t) m) given number
+pub related-hold : (r n t : ℕ) (b : Box) (p : Plan) (m : History) (given : List ℕ) (number : ℕ → ℕ) → Related b p m given number
+    → Related (hold r n t b) p (hold-request (Getm r n t) m) given number
 unfolding hold hold-request
 related-hold r n t b p m given number s =
     related-with-hold (some (record { register = r; size = n; tag = t })) (hold r n t b) p m given number
@@ -54,11 +56,14 @@ unfolding unheld
 related-unheld b p m given number s = related-calm b (unheld b) p p m given number (quiet-calm b p (unheld b) p (unheld-quiet b p)) refl s
 
 -- and from both
-pub related-dropped : (b : Box) (p : Plan) (m : History) (given : List ℕ) (number : ℕ → ℕ) → Related b p m given number → Related (unheld b) p (with-hold none m) given number
+pub related-dropped : (b : Box) (p : Plan) (m : History) (given : List ℕ) (number : ℕ → ℕ) → Related b p m given number
+    → Related (unheld b) p (with-hold none m) given number
 related-dropped b p m given number s = related-with-hold none (unheld b) p m given number (related-unheld b p m given number s)
 
 -- the hold granted: c has the new tuple
-pub related-granted : (b : Box) (p : Plan) (c : Box) (q : Plan) (o : Asked) (m : History) (given : List ℕ) (number : ℕ → ℕ) → Made b p c q (o .register) (o .size) (o .tag) → Contents b p → Related b p m given number → length (m .registers) ≡ register-count → o .register < register-count
+pub related-granted : (b : Box) (p : Plan) (c : Box) (q : Plan) (o : Asked) (m : History) (given : List ℕ) (number : ℕ → ℕ)
+    → Made b p c q (o .register) (o .size) (o .tag) → Contents b p → Related b p m given number → length (m .registers) ≡ register-count
+    → o .register < register-count
     → Related (unheld c) q (grant (some o) m) (given ++ b .state .free ∷ []) (renumbered number (b .state .free) (suc (made m)))
 unfolding grant
 related-granted b p c q o m given number a i s eight l =
@@ -67,7 +72,8 @@ related-granted b p c q o m given number a i s eight l =
 
 -- ---- the history machine's registers
 
-registers-cond : (t : Bool) (x y m : History) → length (x .registers) ≡ length (m .registers) → length (y .registers) ≡ length (m .registers) → length (cond t x y .registers) ≡ length (m .registers)
+registers-cond : (t : Bool) (x y m : History) → length (x .registers) ≡ length (m .registers)
+    → length (y .registers) ≡ length (m .registers) → length (cond t x y .registers) ≡ length (m .registers)
 registers-cond true x y m e f = e
 registers-cond false x y m e f = f
 

@@ -39,7 +39,8 @@ bits-same : (v w : Word) → handle-of v ≡ handle-of w → offset-of v ≡ off
 bits-same v w e f = sym (div-add-mod' (v .bits) half-word) ∙ ap₂ (λ (x y : ℕ). x * half-word + y) e f ∙ div-add-mod' (w .bits) half-word
 
 -- SAME compares alike on both sides
-pub same-alike : (number : ℕ → ℕ) (given : List ℕ) (v w : Word) (x y : HWord) → Match number v x → Match number w y → Matches given v x → Matches given w y → same-word v w ≡ same-hword x y
+pub same-alike : (number : ℕ → ℕ) (given : List ℕ) (v w : Word) (x y : HWord) → Match number v x → Match number w y → Matches given v x
+    → Matches given w y → same-word v w ≡ same-hword x y
 unfolding same-word same-hword
 same-alike number given v w (datum a) (datum c) e f m n = simp (e .0, f .0, e .1, f .1, and-true)
 same-alike number given v w (datum a) (pointer-to j q) e f m n = simp (e .0, f .0, and-false)
@@ -91,7 +92,8 @@ module _ (b : Box) (g : Ghosts) (m : History) (given : List ℕ) (number : ℕ �
   root-holds t k n = s .kept-hold (named t b) (root-kept t k n)
 
   -- the word that a register and an index name, on both sides
-  word-both : (t n : ℕ) → t < register-count → There t n b → (j o : ℕ) → Match number (register t b) (pointer-to j o) → Match number (read (place-of t n b) b) (word-of j (o + n) m)
+  word-both : (t n : ℕ) → t < register-count → There t n b → (j o : ℕ) → Match number (register t b) (pointer-to j o)
+      → Match number (read (place-of t n b) b) (word-of j (o + n) m)
   unfolding word
   word-both t n k x j o e =
       subst (λ (y : ℕ). Match number (read (place-of t n b) b) (word-of y (o + n) m)) (e .2)
@@ -112,7 +114,8 @@ module _ (b : Box) (g : Ghosts) (m : History) (given : List ℕ) (number : ℕ �
       subst (λ (y : Bool). Related (put-register r (read (place-of t n b) b) b) (g .plan) (cond y (put-in r (word-of j (o + n) m) m) m) given number) (sym (lt-ltb (o + n) (size-at j m) (inside-both t n k x j o e)))
       (put-both r (read (place-of t n b) b) (word-of j (o + n) m) l (word-both t n k x j o e))
 
-  pub related-load : (r t n : ℕ) → r < register-count → t < register-count → There t n b → Related (put-register r (read (place-of t n b) b) b) (g .plan) (do-request (Load r t n) m) given number
+  pub related-load : (r t n : ℕ) → r < register-count → t < register-count → There t n b
+      → Related (put-register r (read (place-of t n b) b) b) (g .plan) (do-request (Load r t n) m) given number
   unfolding do-request
   related-load r t n l k x = loaded r t n l k x (register-of t m) (s .roots-match t k)
 

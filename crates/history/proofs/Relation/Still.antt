@@ -17,7 +17,8 @@ use Rattle.history.proofs.Asking.Registers.{put-word, put-kept-to, regi
 
 -- ---- the collector
 
-pub related-calm : (b c : Box) (p q : Plan) (m : History) (given : List ℕ) (number : ℕ → ℕ) → Calm b p c q → c .state .h ≡ b .state .h → Related b p m given number → Related c q m given number
+pub related-calm : (b c : Box) (p q : Plan) (m : History) (given : List ℕ) (number : ℕ → ℕ) → Calm b p c q → c .state .h ≡ b .state .h
+    → Related b p m given number → Related c q m given number
 related-calm b c p q m given number s e i =
     record {
       roots-match = λ r l. subst (λ (w : Word). Match number w (register-of r m)) (sym (s .roots-same r)) (i .roots-match r l);
@@ -43,7 +44,8 @@ related-calm b c p q m given number s e i =
 -- ---- a register
 
 -- register r takes a word on both sides
-pub related-put : (r : ℕ) (w : Word) (v : HWord) (b : Box) (p : Plan) (m : History) (given : List ℕ) (number : ℕ → ℕ) → Shape b → length (m .registers) ≡ register-count → r < register-count
+pub related-put : (r : ℕ) (w : Word) (v : HWord) (b : Box) (p : Plan) (m : History) (given : List ℕ) (number : ℕ → ℕ) → Shape b
+    → length (m .registers) ≡ register-count → r < register-count
     → Match number w v → Related b p m given number → Related (put-register r w b) p (put-in r v m) given number
 related-put r w v b p m given number sh lm l e i =
     record { roots-match = roots; kept-hold = held; nil-number = i .nil-number; all-given = i .all-given; given-entry = i .given-entry; number-latest = i .number-latest }

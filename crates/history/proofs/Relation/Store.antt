@@ -172,7 +172,8 @@ module _ (b : Box) (g : Ghosts) (m : History) (given : List ℕ) (number : ℕ �
       (subst (λ (y : ℕ). Related c (g .plan) (stored-in (number (named t b)) (y + n) (register-of r m) m) given number) (e .1)
       (related-stored b (g .plan) c (named t b) (word-number t n b) (register r b) (register-of r m) m given number a s (i .contents .roots-kept t k (x .is-pointer)) (x .inside) (s .roots-match r l))))
 
-  pub related-store : (c : Box) (r t n : ℕ) → r < register-count → t < register-count → There t n b → Stored b (g .plan) c (g .plan) (named t b) (word-number t n b) (register r b)
+  pub related-store : (c : Box) (r t n : ℕ) → r < register-count → t < register-count → There t n b
+      → Stored b (g .plan) c (g .plan) (named t b) (word-number t n b) (register r b)
       → Related c (g .plan) (do-request (Store r t n) m) given number
   unfolding do-request
   related-store c r t n l k x a = stores c r t n l k x a (register-of t m) (s .roots-match t k)

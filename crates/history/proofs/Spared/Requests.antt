@@ -31,7 +31,8 @@ pub record Unmarking (b : Box) (p : Plan) (c : Box) (number : ℕ → ℕ) (star
   pub marked-from : (h : ℕ) → marked h c ≡ true → (marked h b ≡ true) ⊎ Spared started (number h)
   pub kept-to : (h : ℕ) → Kept c p h → Kept b p h
 
-pub tracked-asked : (b : Box) (p : Plan) (c : Box) (m n : History) (number : ℕ → ℕ) (started : History) → Unmarking b p c number started → SparedIn n started → Tracked b p m number started → Tracked c p n number started
+pub tracked-asked : (b : Box) (p : Plan) (c : Box) (m n : History) (number : ℕ → ℕ) (started : History) → Unmarking b p c number started
+    → SparedIn n started → Tracked b p m number started → Tracked c p n number started
 tracked-asked b p c m n number started u s t =
     record {
       not-fewer = s .not-fewer;

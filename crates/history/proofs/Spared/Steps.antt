@@ -79,7 +79,8 @@ shade-marked-only h b P y x e = go (ℕ-discrete x h)
 -- ---- the scan
 
 -- what a scanned word names is spared
-pub scanned-spared : (b : Box) (g : Ghosts) (m : History) (given : List ℕ) (number : ℕ → ℕ) (started : History) → Inv b g → Related b (g .plan) m given number → Tracked b (g .plan) m number started
+pub scanned-spared : (b : Box) (g : Ghosts) (m : History) (given : List ℕ) (number : ℕ → ℕ) (started : History) → Inv b g
+    → Related b (g .plan) m given number → Tracked b (g .plan) m number started
     → b .state .phase ≡ 2 → b .state .index ≤ b .state .size → names-tuple (word-at (b .state .src + b .state .index) b) ≡ true
     → Spared started (number (handle-of (word-at (b .state .src + b .state .index) b)))
 scanned-spared b g m given number started v r t e l n = let s : Scanning b g = scanning-of b g (v .stage) e in found (s .scanned) (s .scan-is)

@@ -39,7 +39,8 @@ pub size-beyond : (i : ℕ) (m : History) → made m < i → size-at i m ≡ 0
 size-beyond i m l = ap (λ (t : HTuple). length (t .words)) (List·getD-eq-default (nil-tuple ∷ m .tuples) nil-tuple {n = i} (omega arith))
 
 -- b is the box after its Rest step: phase 1, and nothing marked
-pub tracked-start : (b : Box) (p : Plan) (m : History) (number : ℕ → ℕ) → b .state .phase ≡ 1 → ((h : ℕ) → Member h (p .ahead) → marked h b ≡ false) → Tracked b p m number m
+pub tracked-start : (b : Box) (p : Plan) (m : History) (number : ℕ → ℕ) → b .state .phase ≡ 1
+    → ((h : ℕ) → Member h (p .ahead) → marked h b ≡ false) → Tracked b p m number m
 tracked-start b p m number e f =
     record {
       not-fewer = omega arith;
@@ -88,7 +89,8 @@ module _ (b : Box) (p : Plan) (m : History) (given : List ℕ) (number : ℕ →
       t .roots-spared r (number (handle-of (register r b))) (q .0) l (q .1) (kept-number (handle-of (register r b)) (i .roots-kept r l n))
 
   -- and so is what a word of a spared tuple names
-  pub word-spared : (h : ℕ) → Kept b p h → Spared started (number h) → (k : ℕ) → k < size-of h b → names-tuple (word h (k + 1) b) ≡ true → Spared started (number (handle-of (word h (k + 1) b)))
+  pub word-spared : (h : ℕ) → Kept b p h → Spared started (number h) → (k : ℕ) → k < size-of h b → names-tuple (word h (k + 1) b) ≡ true
+      → Spared started (number (handle-of (word h (k + 1) b)))
   word-spared h x u k l n =
       let y : Holds b m given number h = s .kept-hold h x in
       let q = match-points number (word h (k + 1) b) (word-of (number h) k m) (names-flag (word h (k + 1) b) n) (y .words-match k l) in
@@ -121,7 +123,8 @@ not-spared started i j l n (reachable-then x) e = n (subst (λ (y : ℕ). Reacha
 not-spared started i j l n (made-since u) e = omega arith
 
 -- at rest, with all that is kept spared, it is gone
-pub gone-at-rest : (b : Box) (g : Ghosts) (m : History) (given : List ℕ) (number : ℕ → ℕ) (started : History) → Inv b g → Related b (g .plan) m given number → b .state .phase ≡ 0 → made started ≤ made m
+pub gone-at-rest : (b : Box) (g : Ghosts) (m : History) (given : List ℕ) (number : ℕ → ℕ) (started : History) → Inv b g
+    → Related b (g .plan) m given number → b .state .phase ≡ 0 → made started ≤ made m
     → ((h : ℕ) → Kept b (g .plan) h → Spared started (number h))
     → (i : ℕ) → 1 ≤ i → i ≤ made started → ¬ Reachable started i → Gone b given i
 gone-at-rest b g m given number started v s e u f i l r n =

@@ -30,7 +30,8 @@ sweep-ghosts low base zeroed ds hs free = record { plan = sweep-plan low base ds
 abbrev pub unlisted : (low base zeroed : ℕ) (ds hs free : List ℕ) → Unlisted (sweep-ghosts low base zeroed ds hs free)
 unlisted low base zeroed ds hs free = record { no-nexts = refl; no-currents = refl; no-gray = refl }
 
-ghosts-are : (g : Ghosts) (low base zeroed : ℕ) (hs : List ℕ) → Unlisted g → g .plan .mid ≡ [] → g .plan .low ≡ low → g .plan .base ≡ base → g .zeroed ≡ zeroed → g .plan .ahead ≡ hs
+ghosts-are : (g : Ghosts) (low base zeroed : ℕ) (hs : List ℕ) → Unlisted g → g .plan .mid ≡ [] → g .plan .low ≡ low → g .plan .base ≡ base
+    → g .zeroed ≡ zeroed → g .plan .ahead ≡ hs
     → g ≡ sweep-ghosts low base zeroed (g .plan .done) hs (g .free)
 ghosts-are g low base zeroed hs u m l s z a = λ i. record { plan = record { done = g .plan .done; mid = m i; ahead = a i; low = l i; base = s i }; free = g .free; scans = record { nexts = u .no-nexts i; currents = u .no-currents i; gray = u .no-gray i }; zeroed = z i }
 
@@ -134,7 +135,8 @@ swept-marks c q free l f d m e n k =
     }
 
 -- a kept tuple, with none being moved: it is settled, or lies ahead and is marked
-pub kept-swept : (b : Box) (low base : ℕ) (ds hs : List ℕ) → 4 ≤ b .state .phase → (h : ℕ) → Kept b (sweep-plan low base ds hs) h → Member h ds ⊎ (Member h hs × (marked h b ≡ true))
+pub kept-swept : (b : Box) (low base : ℕ) (ds hs : List ℕ) → 4 ≤ b .state .phase → (h : ℕ) → Kept b (sweep-plan low base ds hs) h
+    → Member h ds ⊎ (Member h hs × (marked h b ≡ true))
 kept-swept b low base ds hs l h (settled x) = inl x
 kept-swept b low base ds hs l h (moving x) = absurd x
 kept-swept b low base ds hs l h (unswept x u) = absurd (omega arith)
@@ -145,7 +147,8 @@ abbrev pub Plain : Box → Type 0
 Plain b = (h i : ℕ) → word h i b ≡ word-at (address h b + i) b
 
 -- a transition that leaves addresses, sizes, memory and registers alone
-pub plain-quiet : (b : Box) (p : Plan) (c : Box) (q : Plan) → Plain b → Plain c → ((h : ℕ) → address h c ≡ address h b) → ((h : ℕ) → size-of h c ≡ size-of h b) → ((a : ℕ) → word-at a c ≡ word-at a b) → ((h : ℕ) → deep h c ≡ deep h b)
+pub plain-quiet : (b : Box) (p : Plan) (c : Box) (q : Plan) → Plain b → Plain c → ((h : ℕ) → address h c ≡ address h b)
+    → ((h : ℕ) → size-of h c ≡ size-of h b) → ((a : ℕ) → word-at a c ≡ word-at a b) → ((h : ℕ) → deep h c ≡ deep h b)
     → ((r : ℕ) → register r c ≡ register r b) → ((h : ℕ) → Kept c q h → Kept b p h) → ((h : ℕ) → Kept b p h → Kept c q h) → Quiet b p c q
 plain-quiet b p c q pb pc ad sz wd dp rg to from =
     record {

@@ -28,7 +28,8 @@ sweep-end-fits b g v ph = omega (arith, sweep-end-below-top b g v ph, v .layout 
 pub sweep-more-fits : (b : Box) (g : Ghosts) → Inv b g → b .state .phase ≡ 4 → swept-after b ≢ b .state .top → swept-after b < b .state .m
 sweep-more-fits b g v ph more = omega (arith, sweep-end-below-top b g v ph, v .layout .top-fits)
 
-pub release-more-fits : (b : Box) (g : Ghosts) → Inv b g → b .state .phase ≡ 4 → marked (b .state .tuple) b ≡ false → b .state .src + size-of (b .state .tuple) b < b .state .live → swept-after b < b .state .m
+pub release-more-fits : (b : Box) (g : Ghosts) → Inv b g → b .state .phase ≡ 4 → marked (b .state .tuple) b ≡ false
+    → b .state .src + size-of (b .state .tuple) b < b .state .live → swept-after b < b .state .m
 release-more-fits b g v ph mk below =
     let s : Scanned b g = scanned b g v ph in
     omega (arith, more-behind b (s .settled-tuples) (s .behind-it) (s .free-handles) (s .inv) mk below, v .layout .top-fits)

@@ -115,7 +115,8 @@ module _ (b : Box) (ds hs free : List ℕ) (v : Inv b (scan-ghosts b ds hs free)
         calm = quiet-calm b (scan-ghosts b ds hs free .plan) (kept-box b) (kept-plan b ds hs) keep-quiet;
       }
 
-pub keeps : (b : Box) (g : Ghosts) → Inv b g → b .state .phase ≡ 4 → marked (b .state .tuple) b ≡ true → b .state .src ≡ b .state .dest → swept-after b ≢ b .state .top → Next b g (kept-box b)
+pub keeps : (b : Box) (g : Ghosts) → Inv b g → b .state .phase ≡ 4 → marked (b .state .tuple) b ≡ true → b .state .src ≡ b .state .dest
+    → swept-after b ≢ b .state .top → Next b g (kept-box b)
 keeps b g v ph mk at-dest more =
     let s : Scanned b g = scanned b g v ph in
     next-at b g (scan-ghosts b (s .settled-tuples) (s .behind-it) (s .free-handles)) (kept-box b) (s .are) (keeps-at b (s .settled-tuples) (s .behind-it) (s .free-handles) (s .inv) ph mk at-dest more)
@@ -182,7 +183,8 @@ module _ (b : Box) (ds free : List ℕ) (v : Inv b (scan-ghosts b ds [] free)) (
         calm = quiet-calm b (scan-ghosts b ds [] free .plan) (at-rest (kept-last-box b)) (resting-plan (ds ++ (b .state .tuple ∷ []))) last-quiet;
       }
 
-pub keeps-last : (b : Box) (g : Ghosts) → Inv b g → b .state .phase ≡ 4 → marked (b .state .tuple) b ≡ true → b .state .src ≡ b .state .dest → swept-after b ≡ b .state .top → Ended b g (kept-last-box b)
+pub keeps-last : (b : Box) (g : Ghosts) → Inv b g → b .state .phase ≡ 4 → marked (b .state .tuple) b ≡ true → b .state .src ≡ b .state .dest
+    → swept-after b ≡ b .state .top → Ended b g (kept-last-box b)
 keeps-last b g v ph mk at-dest last =
     let s : Scanned b g = scanned b g v ph in
     let e : s .behind-it ≡ [] = laid-none b (swept-after b) (s .behind-it) (b .state .top) (behind-laid b (s .settled-tuples) (s .behind-it) (s .free-handles) (s .inv)) last in

@@ -117,7 +117,8 @@ module _ (b : Box) (ds hs free : List ℕ) (v : Inv b (scan-ghosts b ds hs free)
         calm = quiet-calm b (scan-ghosts b ds hs free .plan) (move-begun-box b) (move-begun-plan b ds hs) begun-quiet;
       }
 
-pub starts-move : (b : Box) (g : Ghosts) → Inv b g → b .state .phase ≡ 4 → marked (b .state .tuple) b ≡ true → b .state .src ≢ b .state .dest → Next b g (move-begun-box b)
+pub starts-move : (b : Box) (g : Ghosts) → Inv b g → b .state .phase ≡ 4 → marked (b .state .tuple) b ≡ true
+    → b .state .src ≢ b .state .dest → Next b g (move-begun-box b)
 starts-move b g v ph mk away =
     let s : Scanned b g = scanned b g v ph in
     next-at b g (scan-ghosts b (s .settled-tuples) (s .behind-it) (s .free-handles)) (move-begun-box b) (s .are) (starts-move-at b (s .settled-tuples) (s .behind-it) (s .free-handles) (s .inv) ph mk away)

@@ -91,7 +91,8 @@ module _ (b : Box) (ds hs free : List ℕ) (v : Inv b (scan-ghosts b ds hs free)
   freed-quiet = plain-quiet b (scan-ghosts b ds hs free .plan) (freed-box s t n p b) (freed-plan b ds hs) (λ h i. word-early h i b (omega arith)) plain (λ h. refl) (λ h. refl) (λ a. refl) (λ h. refl) (λ r. refl) freed-to freed-from
 
   -- what is left to each: which words are data 0, and the stage
-  freed-next : (z : ℕ) → ((a : ℕ) → b .state .live ≤ a → a < z → a < b .state .src) → Stage (freed-box s t n p b) (sweep-ghosts (b .state .dest) (swept-after b) z ds hs (b .state .tuple ∷ free))
+  freed-next : (z : ℕ) → ((a : ℕ) → b .state .live ≤ a → a < z → a < b .state .src)
+      → Stage (freed-box s t n p b) (sweep-ghosts (b .state .dest) (swept-after b) z ds hs (b .state .tuple ∷ free))
       → Next b (scan-ghosts b ds hs free) (freed-box s t n p b)
   freed-next z below stage =
       record {
@@ -122,7 +123,8 @@ module _ (b : Box) (ds hs free : List ℕ) (v : Inv b (scan-ghosts b ds hs free)
       freed-next b ds hs free v ph mk (swept-after b) (handle-of (word-at (swept-after b) b)) (b .state .index) 4 (omega arith)
       (λ h i. word-early h i (released-box b) (omega arith)) (swept-after b) (λ a l u. omega arith) released-stage
 
-pub releases : (b : Box) (g : Ghosts) → Inv b g → b .state .phase ≡ 4 → marked (b .state .tuple) b ≡ false → b .state .src + size-of (b .state .tuple) b < b .state .live → Next b g (released-box b)
+pub releases : (b : Box) (g : Ghosts) → Inv b g → b .state .phase ≡ 4 → marked (b .state .tuple) b ≡ false
+    → b .state .src + size-of (b .state .tuple) b < b .state .live → Next b g (released-box b)
 releases b g v ph mk below =
     let s : Scanned b g = scanned b g v ph in
     next-at b g (scan-ghosts b (s .settled-tuples) (s .behind-it) (s .free-handles)) (released-box b) (s .are) (releases-at b (s .settled-tuples) (s .behind-it) (s .free-handles) (s .inv) ph mk below)
@@ -139,7 +141,8 @@ module _ (b : Box) (ds hs free : List ℕ) (v : Inv b (scan-ghosts b ds hs free)
       freed-next b ds hs free v ph mk (b .state .src) (b .state .tuple) (b .state .live - b .state .src) 8 (omega arith)
       (λ h i. word-late h i (zero-begun-box b) (omega arith)) (b .state .src + (b .state .live - b .state .src)) (λ a l u. omega arith) zero-begun-stage
 
-pub starts-zero : (b : Box) (g : Ghosts) → Inv b g → b .state .phase ≡ 4 → marked (b .state .tuple) b ≡ false → b .state .live ≤ b .state .src + size-of (b .state .tuple) b → Next b g (zero-begun-box b)
+pub starts-zero : (b : Box) (g : Ghosts) → Inv b g → b .state .phase ≡ 4 → marked (b .state .tuple) b ≡ false
+    → b .state .live ≤ b .state .src + size-of (b .state .tuple) b → Next b g (zero-begun-box b)
 starts-zero b g v ph mk reached =
     let s : Scanned b g = scanned b g v ph in
     next-at b g (scan-ghosts b (s .settled-tuples) (s .behind-it) (s .free-handles)) (zero-begun-box b) (s .are) (starts-zero-at b (s .settled-tuples) (s .behind-it) (s .free-handles) (s .inv) ph mk reached)

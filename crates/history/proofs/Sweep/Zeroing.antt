@@ -71,7 +71,8 @@ module _ (b : Box) (ds hs free : List ℕ) (v : Inv b (zero-ghosts b ds hs free)
         behind = λ a l u. cases a l u (ℕ-discrete a (b .state .src + b .state .index));
       }
     where
-      cases : (a : ℕ) → b .state .live ≤ a → a < b .state .src + (b .state .index + 1) → Dec (a ≡ b .state .src + b .state .index) → word-at a (zeroed-box b) ≡ data-word 0
+      cases : (a : ℕ) → b .state .live ≤ a → a < b .state .src + (b .state .index + 1) → Dec (a ≡ b .state .src + b .state .index)
+          → word-at a (zeroed-box b) ≡ data-word 0
       cases a l u (yes e) = subst (λ (x : ℕ). word-at x (zeroed-box b) ≡ data-word 0) (sym e) zeroed-here
       cases a l u (no n) = zeroed-other a n ∙ v .zero-words .behind a l (omega arith)
 

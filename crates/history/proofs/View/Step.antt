@@ -278,7 +278,8 @@ sweep-scan-view b s p st = by-entry (entry? (b .state .tuple) b)
         (st ∙ simp (entry-true (b .state .tuple) b e, le-leb (swept-after b) (b .state .m) a, t, ne-eqb (b .state .src) (b .state .dest) d))
 
     by-live : Entry (b .state .tuple) b → swept-after b ≤ b .state .m → marked (b .state .tuple) b ≡ false
-        → (b .state .src + swept-size b < b .state .live) ⊎ (b .state .live ≤ b .state .src + swept-size b) → (swept-after b < b .state .m) ⊎ (b .state .m ≤ swept-after b) → Step b
+        → (b .state .src + swept-size b < b .state .live) ⊎ (b .state .live ≤ b .state .src + swept-size b)
+        → (swept-after b < b .state .m) ⊎ (b .state .m ≤ swept-after b) → Step b
     by-live e a t (inl v) (inl l) =
         releases s p e a t v l
         (st ∙ simp (entry-true (b .state .tuple) b e, le-leb (swept-after b) (b .state .m) a, t, lt-ltb (b .state .src + swept-size b) (b .state .live) v, lt-ltb (swept-after b) (b .state .m) l))
@@ -380,7 +381,8 @@ sweep-zero-view b s p st = by-index (le? (b .state .index) (b .state .size))
     by-address i (inl a) = zeroes s p i a (st ∙ simp (le-leb (b .state .index) (b .state .size) i, lt-ltb (b .state .src + b .state .index) (b .state .m) a))
     by-address i (inr a) = nine s (zero-past p i a) (st ∙ simp (le-leb (b .state .index) (b .state .size) i, le-ltb (b .state .src + b .state .index) (b .state .m) a))
 
-    by-top : b .state .size < b .state .index → after b ≤ b .state .m → (after b ≡ b .state .top) ⊎ (after b ≢ b .state .top) → (after b < b .state .m) ⊎ (b .state .m ≤ after b) → Step b
+    by-top : b .state .size < b .state .index → after b ≤ b .state .m → (after b ≡ b .state .top) ⊎ (after b ≢ b .state .top)
+        → (after b < b .state .m) ⊎ (b .state .m ≤ after b) → Step b
     by-top i a (inl q) l =
         zero-ends s p i a q
         (st ∙ simp (lt-leb (b .state .index) (b .state .size) i, le-leb (after b) (b .state .m) a, eq-eqb (after b) (b .state .top) q))

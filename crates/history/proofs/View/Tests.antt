@@ -94,7 +94,8 @@ pub data Shading (h : ℕ) (b : Box) : Type 0 where
 pub shading : (h : ℕ) (b : Box) → Shading h b
 shading h b = go (entry? h b) (true? (marked h b)) (le? (b .state .live + size-of h b + 1) (b .state .m))
   where
-    go : Entry h b ⊎ (¬ Entry h b) → (marked h b ≡ true) ⊎ (marked h b ≡ false) → (b .state .live + size-of h b + 1 ≤ b .state .m) ⊎ (b .state .m < b .state .live + size-of h b + 1) → Shading h b
+    go : Entry h b ⊎ (¬ Entry h b) → (marked h b ≡ true) ⊎ (marked h b ≡ false)
+        → (b .state .live + size-of h b + 1 ≤ b .state .m) ⊎ (b .state .m < b .state .live + size-of h b + 1) → Shading h b
     go (inr n) t l = shade-lost n
     go (inl e) (inl t) l = shaded e t
     go (inl e) (inr t) (inl l) = unshaded e t l
