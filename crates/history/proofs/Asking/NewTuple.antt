@@ -75,20 +75,7 @@ new-shape : (b : Box) → Shape b → (r n tag : ℕ) → Shape (new-tuple r n t
 unfolding new-tuple take-room new-entry
 new-shape b s r n tag =
     shape-same b (new-tuple r n tag b)
-    (record {
-      m-same = refl;
-      h-same = refl;
-      words-same = length-set (b .words) (b .state .top) (control-word (b .state .free) tag .bits);
-      flags-same = length-set (b .flags) (b .state .top) false;
-      addresses-same = length-set (b .addresses) (b .state .free) (b .state .top);
-      sizes-same = length-set (b .sizes) (b .state .free) n;
-      links-same = refl;
-      marks-same = length-set (b .marks) (b .state .free) (collecting b);
-      deeps-same = length-set (b .deeps) (b .state .free) false;
-      registers-same = length-set (b .state .registers) r (pointer (b .state .free) 0 .bits);
-      register-flags-same = length-set (b .state .flags) r true;
-      held-same = λ e. (e, refl);
-    })
+    (search length-set)
     s
 
 pub new-box : (b : Box) → Shape b → (r n tag : ℕ) → r < register-count → b .state .free < b .state .h → b .state .top + n + 1 ≤ b .state .m
@@ -399,7 +386,7 @@ module _ (b : Box) (g : Ghosts) (c : Box) (r n tag : ℕ) (v : Inv b g) (d : b .
   -- ---- the stage
 
   new-unswept : Unswept g → Unswept (made-ghosts g (b .state .free))
-  new-unswept x = record { no-done = x .no-done; no-mid = x .no-mid; low-zero = x .low-zero; base-zero = x .base-zero; zeroed-zero = x .zeroed-zero }
+  new-unswept x = search
 
   new-unlisted : Unlisted g → Unlisted (made-ghosts g (b .state .free))
   new-unlisted x = record { no-nexts = x .no-nexts; no-currents = x .no-currents; no-gray = x .no-gray }

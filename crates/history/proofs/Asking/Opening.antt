@@ -207,11 +207,5 @@ opened-inv m h e =
       contents = open-contents m h;
       zero-words = open-zero m h;
       marks = open-marks m h;
-      stage = Stage.at-rest refl (record {
-        no-done = refl;
-        no-mid = refl;
-        low-zero = refl;
-        base-zero = refl;
-        zeroed-zero = refl;
-      }) (record { no-nexts = refl; no-currents = refl; no-gray = refl }) (λ x y. absurd y);
+      stage = Stage.at-rest refl (search) (record { no-nexts = refl; no-currents = refl; no-gray = refl }) (λ x y. absurd y);
     }

@@ -40,26 +40,7 @@ pub record Put (b : Box) (p : Plan) (c : Box) (r : ℕ) (w : Word) : Type 0 wher
   pub deeps-same : (h : ℕ) → deep h c ≡ deep h b
 
 put-steady : (r : ℕ) (w : Word) (b : Box) → Steady b (put-register r w b)
-put-steady r w b =
-    record {
-      address-same = λ h. refl;
-      size-same = λ h. refl;
-      marked-same = λ h. refl;
-      links-same = refl;
-      m-same = refl;
-      h-same = refl;
-      top-same = refl;
-      free-same = refl;
-      phase-same = refl;
-      live-same = refl;
-      current-same = refl;
-      next-same = refl;
-      src-same = refl;
-      dest-same = refl;
-      tuple-same = refl;
-      entry-size-same = refl;
-      index-same = refl;
-    }
+put-steady r w b = search
 
 put-read : (r : ℕ) (w : Word) (b : Box) (p : Place) → read p (put-register r w b) ≡ read p b
 unfolding read
@@ -94,20 +75,7 @@ register-put b g v r w l =
 put-shape : (r : ℕ) (w : Word) (b : Box) → Shape b → Shape (put-register r w b)
 put-shape r w b s =
     shape-same b (put-register r w b)
-    (record {
-      m-same = refl;
-      h-same = refl;
-      words-same = refl;
-      flags-same = refl;
-      addresses-same = refl;
-      sizes-same = refl;
-      links-same = refl;
-      marks-same = refl;
-      deeps-same = refl;
-      registers-same = length-set (b .state .registers) r (w .bits);
-      register-flags-same = length-set (b .state .flags) r (w .flag);
-      held-same = λ e. (e, refl);
-    })
+    (search length-set)
     s
 
 put-contents : (b : Box) (g : Ghosts) → Inv b g → (r : ℕ) (w : Word) → r < register-count
@@ -194,26 +162,7 @@ hold-word r n t b h i = hold-read r n t b (place h i b)
 
 hold-steady : (r n t : ℕ) (b : Box) → Steady b (hold r n t b)
 unfolding hold
-hold-steady r n t b =
-    record {
-      address-same = λ h. refl;
-      size-same = λ h. refl;
-      marked-same = λ h. refl;
-      links-same = refl;
-      m-same = refl;
-      h-same = refl;
-      top-same = refl;
-      free-same = refl;
-      phase-same = refl;
-      live-same = refl;
-      current-same = refl;
-      next-same = refl;
-      src-same = refl;
-      dest-same = refl;
-      tuple-same = refl;
-      entry-size-same = refl;
-      index-same = refl;
-    }
+hold-steady r n t b = search
 
 -- nothing of the tuples or the registers changes
 pub hold-quiet : (r n t : ℕ) (b : Box) (p : Plan) → Quiet b p (hold r n t b) p
@@ -269,26 +218,7 @@ unheld-word b h i = unheld-read b (place h i b)
 
 unheld-steady : (b : Box) → Steady b (unheld b)
 unfolding unheld
-unheld-steady b =
-    record {
-      address-same = λ h. refl;
-      size-same = λ h. refl;
-      marked-same = λ h. refl;
-      links-same = refl;
-      m-same = refl;
-      h-same = refl;
-      top-same = refl;
-      free-same = refl;
-      phase-same = refl;
-      live-same = refl;
-      current-same = refl;
-      next-same = refl;
-      src-same = refl;
-      dest-same = refl;
-      tuple-same = refl;
-      entry-size-same = refl;
-      index-same = refl;
-    }
+unheld-steady b = search
 
 pub unheld-quiet : (b : Box) (p : Plan) → Quiet b p (unheld b) p
 unfolding unheld

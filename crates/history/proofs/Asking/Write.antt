@@ -35,26 +35,7 @@ unfolding place being-moved
 deepen-place h b k i = refl
 
 pub deepen-steady : (h : ℕ) (b : Box) → Steady b (set-deep h true b)
-deepen-steady h b =
-    record {
-      address-same = λ k. refl;
-      size-same = λ k. refl;
-      marked-same = λ k. refl;
-      links-same = refl;
-      m-same = refl;
-      h-same = refl;
-      top-same = refl;
-      free-same = refl;
-      phase-same = refl;
-      live-same = refl;
-      current-same = refl;
-      next-same = refl;
-      src-same = refl;
-      dest-same = refl;
-      tuple-same = refl;
-      entry-size-same = refl;
-      index-same = refl;
-    }
+deepen-steady h b = search
 
 pub deepen-deep : (h : ℕ) (b : Box) → Shape b → h < b .state .h → deep h (set-deep h true b) ≡ true
 deepen-deep h b s l = getD-set-same (b .deeps) h true false (omega (arith, s .deeps-length))
@@ -69,20 +50,7 @@ deepen-stays h b s l k e = cases (ℕ-discrete k h)
 deepen-shape : (h : ℕ) (b : Box) → Shape b → Shape (set-deep h true b)
 deepen-shape h b s =
     shape-same b (set-deep h true b)
-    (record {
-      m-same = refl;
-      h-same = refl;
-      words-same = refl;
-      flags-same = refl;
-      addresses-same = refl;
-      sizes-same = refl;
-      links-same = refl;
-      marks-same = refl;
-      deeps-same = length-set (b .deeps) h true;
-      registers-same = refl;
-      register-flags-same = refl;
-      held-same = λ e. (e, refl);
-    })
+    (search length-set)
     s
 
 deepen-contents : (h : ℕ) (b : Box) (p : Plan) → Shape b → h < b .state .h → Contents b p → Contents (set-deep h true b) p
@@ -113,46 +81,8 @@ deepen-inv b g v h l =
 
 write-steady : (p : Place) (w : Word) (b : Box) → Steady b (write p w b)
 unfolding write
-write-steady copy-place w b =
-    record {
-      address-same = λ k. refl;
-      size-same = λ k. refl;
-      marked-same = λ k. refl;
-      links-same = refl;
-      m-same = refl;
-      h-same = refl;
-      top-same = refl;
-      free-same = refl;
-      phase-same = refl;
-      live-same = refl;
-      current-same = refl;
-      next-same = refl;
-      src-same = refl;
-      dest-same = refl;
-      tuple-same = refl;
-      entry-size-same = refl;
-      index-same = refl;
-    }
-write-steady (at a) w b =
-    record {
-      address-same = λ k. refl;
-      size-same = λ k. refl;
-      marked-same = λ k. refl;
-      links-same = refl;
-      m-same = refl;
-      h-same = refl;
-      top-same = refl;
-      free-same = refl;
-      phase-same = refl;
-      live-same = refl;
-      current-same = refl;
-      next-same = refl;
-      src-same = refl;
-      dest-same = refl;
-      tuple-same = refl;
-      entry-size-same = refl;
-      index-same = refl;
-    }
+write-steady copy-place w b = search
+write-steady (at a) w b = search
 
 write-place : (p : Place) (w : Word) (b : Box) (k i : ℕ) → place k i (write p w b) ≡ place k i b
 unfolding write place being-moved
@@ -171,34 +101,8 @@ write-deep (at a) w b k = refl
 
 write-shape : (p : Place) (w : Word) (b : Box) → Shape b → Shape (write p w b)
 unfolding write
-write-shape copy-place w b s =
-    record {
-      range = s .range;
-      words-length = s .words-length;
-      flags-length = s .flags-length;
-      addresses-length = s .addresses-length;
-      sizes-length = s .sizes-length;
-      links-length = s .links-length;
-      marks-length = s .marks-length;
-      deeps-length = s .deeps-length;
-      registers-length = s .registers-length;
-      register-flags-length = s .register-flags-length;
-      held-register = s .held-register;
-    }
-write-shape (at a) w b s =
-    record {
-      range = s .range;
-      words-length = length-set (b .words) a (w .bits) ∙ s .words-length;
-      flags-length = length-set (b .flags) a (w .flag) ∙ s .flags-length;
-      addresses-length = s .addresses-length;
-      sizes-length = s .sizes-length;
-      links-length = s .links-length;
-      marks-length = s .marks-length;
-      deeps-length = s .deeps-length;
-      registers-length = s .registers-length;
-      register-flags-length = s .register-flags-length;
-      held-register = s .held-register;
-    }
+write-shape copy-place w b s = search
+write-shape (at a) w b s = search length-set
 
 -- the word is there
 read-written : (p : Place) (w : Word) (b : Box) → Shape b → ((a : ℕ) → p ≡ at a → a < b .state .m) → read p (write p w b) ≡ w

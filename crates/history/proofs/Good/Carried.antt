@@ -208,8 +208,8 @@ record WriteKeeps (b c : Box) : Type 0 where
 
 write-keeps : (p : Place) (w : Word) (b : Box) → WriteKeeps b (write p w b)
 unfolding write
-write-keeps copy-place w b = record { m-same = refl; h-same = refl; held-same = refl; phase-same = refl; tuple-same = refl; marked-same = λ x. refl }
-write-keeps (at a) w b = record { m-same = refl; h-same = refl; held-same = refl; phase-same = refl; tuple-same = refl; marked-same = λ x. refl }
+write-keeps copy-place w b = search
+write-keeps (at a) w b = search
 
 module _ (m h : ℕ) (b : Box) (t : History) (l : Log) (k : Good m h b t l) (u : b .state .held ≡ false) where
   abbrev g : Ghosts

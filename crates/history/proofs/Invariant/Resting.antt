@@ -33,24 +33,11 @@ pub record Finished (c : Box) (hs free : List ℕ) : Type 0 where
 
 rest-shape : (c : Box) → Shape c → Shape (at-rest c)
 unfolding at-rest
-rest-shape c s =
-    record {
-      range = s .range;
-      words-length = s .words-length;
-      flags-length = s .flags-length;
-      addresses-length = s .addresses-length;
-      sizes-length = s .sizes-length;
-      links-length = s .links-length;
-      marks-length = s .marks-length;
-      deeps-length = s .deeps-length;
-      registers-length = s .registers-length;
-      register-flags-length = s .register-flags-length;
-      held-register = s .held-register;
-    }
+rest-shape c s = search
 
 rest-handles : (c : Box) (hs free : List ℕ) → Handles c (resting-plan hs) free → Handles (at-rest c) (resting-plan hs) free
 unfolding at-rest
-rest-handles c hs free i = record { distinct = i .distinct; entries = i .entries; every = i .every; count = i .count; free-chain = i .free-chain }
+rest-handles c hs free i = search
 
 rest-layout : (c : Box) (hs free : List ℕ) → Finished c hs free → Layout (at-rest c) (resting-plan hs)
 unfolding at-rest rooms
@@ -93,13 +80,7 @@ finished c hs free f =
       contents = f .contents;
       zero-words = rest-zero c hs free f;
       marks = rest-marks c hs free f;
-      stage = Stage.at-rest refl (record {
-        no-done = refl;
-        no-mid = refl;
-        low-zero = refl;
-        base-zero = refl;
-        zeroed-zero = refl;
-      }) (record { no-nexts = refl; no-currents = refl; no-gray = refl }) (f .unmarked);
+      stage = Stage.at-rest refl (search) (record { no-nexts = refl; no-currents = refl; no-gray = refl }) (f .unmarked);
     }
 
 -- where no tuple is left, none is kept

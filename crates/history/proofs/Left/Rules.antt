@@ -80,13 +80,7 @@ fewer-adds-marked b g g′ v p w = left-adds-marked b g (to-phase 2 b) g′ v w 
 phase-shaded : (b c : Box) (h p : ℕ) → ShadedBox b c h → ShadedBox b (to-phase p c) h
 phase-shaded b c h p s =
     record {
-      heap = record {
-        addresses-are = s .heap .addresses-are;
-        sizes-are = s .heap .sizes-are;
-        words-are = s .heap .words-are;
-        flags-are = s .heap .flags-are;
-        top-is = s .heap .top-is;
-      };
+      heap = search;
       marks-are = s .marks-are;
       listing = again (s .listing);
       current-is = s .current-is;

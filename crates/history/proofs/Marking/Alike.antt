@@ -191,7 +191,7 @@ abbrev pub none-wait : Scans
 none-wait = record { nexts = []; currents = []; gray = [] }
 
 pub unswept-scans : (g : Ghosts) (s : Scans) → Unswept g → Unswept (with-scans s g)
-unswept-scans g s u = record { no-done = u .no-done; no-mid = u .no-mid; low-zero = u .low-zero; base-zero = u .base-zero; zeroed-zero = u .zeroed-zero }
+unswept-scans g s u = search
 
 -- a transition of the marking: what is left to show is the marks and the stage
 pub inv-alike : (b : Box) (g : Ghosts) (c : Box) (s : Scans) → Inv b g → Alike b c → b .state .phase ≤ 3 → c .state .phase ≤ 3

@@ -54,24 +54,7 @@ seen-more b g x P s l f last k u = go (ℕ-discrete (k + 1) (b .state .index))
 
 -- a box of another phase
 alike-phase : (b c : Box) (p : ℕ) → Alike b c → Alike b (to-phase p c)
-alike-phase b c p a =
-    record {
-      words-are = a .words-are;
-      flags-are = a .flags-are;
-      addresses-are = a .addresses-are;
-      sizes-are = a .sizes-are;
-      deeps-are = a .deeps-are;
-      links-length = a .links-length;
-      marks-length = a .marks-length;
-      m-is = a .m-is;
-      h-is = a .h-is;
-      registers-are = a .registers-are;
-      register-flags-are = a .register-flags-are;
-      top-is = a .top-is;
-      free-is = a .free-is;
-      held-is = a .held-is;
-      hold-is = a .hold-is;
-    }
+alike-phase b c p a = search
 
 -- the tuples that wait stay as they are, and the collector's place in the scan alone changes
 relisted-same : (b : Box) (g : Ghosts) (c : Box) → Inv b g → c .links ≡ b .links → c .marks ≡ b .marks → c .state .live ≡ b .state .live

@@ -50,60 +50,9 @@ shaded h b s = go (marked h b) (deep h b) refl refl
 
 shaded-alike : {h : ℕ} {b : Box} {s : Scans} {c : Box} {s′ : Scans} → ShadeCase h b s c s′ → Alike b c
 unfolding list-next mark-live
-shaded-alike (already e) =
-    record {
-      words-are = refl;
-      flags-are = refl;
-      addresses-are = refl;
-      sizes-are = refl;
-      deeps-are = refl;
-      links-length = refl;
-      marks-length = refl;
-      m-is = refl;
-      h-is = refl;
-      registers-are = refl;
-      register-flags-are = refl;
-      top-is = refl;
-      free-is = refl;
-      held-is = refl;
-      hold-is = refl;
-    }
-shaded-alike {h} {b} (listing e f) =
-    record {
-      words-are = refl;
-      flags-are = refl;
-      addresses-are = refl;
-      sizes-are = refl;
-      deeps-are = refl;
-      links-length = length-set (b .links) h (b .state .next);
-      marks-length = length-set (b .marks) h true;
-      m-is = refl;
-      h-is = refl;
-      registers-are = refl;
-      register-flags-are = refl;
-      top-is = refl;
-      free-is = refl;
-      held-is = refl;
-      hold-is = refl;
-    }
-shaded-alike {h} {b} (counting e f) =
-    record {
-      words-are = refl;
-      flags-are = refl;
-      addresses-are = refl;
-      sizes-are = refl;
-      deeps-are = refl;
-      links-length = refl;
-      marks-length = length-set (b .marks) h true;
-      m-is = refl;
-      h-is = refl;
-      registers-are = refl;
-      register-flags-are = refl;
-      top-is = refl;
-      free-is = refl;
-      held-is = refl;
-      hold-is = refl;
-    }
+shaded-alike (already e) = search
+shaded-alike {h} {b} (listing e f) = search length-set
+shaded-alike {h} {b} (counting e f) = search length-set
 
 -- the collector's numbers, but for live and next
 pub record SameNumbers (b c : Box) : Type 0 where
@@ -117,9 +66,9 @@ pub record SameNumbers (b c : Box) : Type 0 where
 
 shaded-numbers : {h : ℕ} {b : Box} {s : Scans} {c : Box} {s′ : Scans} → ShadeCase h b s c s′ → SameNumbers b c
 unfolding list-next mark-live
-shaded-numbers (already e) = record { phase-is = refl; current-is = refl; src-is = refl; dest-is = refl; tuple-is = refl; size-is = refl; index-is = refl }
-shaded-numbers (listing e f) = record { phase-is = refl; current-is = refl; src-is = refl; dest-is = refl; tuple-is = refl; size-is = refl; index-is = refl }
-shaded-numbers (counting e f) = record { phase-is = refl; current-is = refl; src-is = refl; dest-is = refl; tuple-is = refl; size-is = refl; index-is = refl }
+shaded-numbers (already e) = search
+shaded-numbers (listing e f) = search
+shaded-numbers (counting e f) = search
 
 -- ---- the marks and the links
 

@@ -32,26 +32,7 @@ clears-words b g m p i l = go (turn i (b .state .index))
 clears-within : (b : Box) (g : Ghosts) → Move b g → b .state .phase ≡ 6 → b .state .index ≤ b .state .size → Within b (cleared-box b)
 clears-within b g m p l =
     record {
-      m-same = refl;
-      h-same = refl;
-      registers-same = refl;
-      register-flags-same = refl;
-      top-same = refl;
-      free-same = refl;
-      live-same = refl;
-      current-same = refl;
-      next-same = refl;
-      src-same = refl;
-      dest-same = refl;
-      tuple-same = refl;
-      size-same = refl;
-      held-same = refl;
-      hold-same = refl;
-      addresses-same = refl;
-      sizes-same = refl;
-      links-same = refl;
-      marks-same = refl;
-      deeps-same = refl;
+      still = search;
       words-length = simp length-set;
       flags-length = simp length-set;
       phase-before = omega arith;

@@ -25,26 +25,7 @@ copies-words p b g m q l u i = go (turn i (b .state .index))
 copies-within : (p : ℕ) (b : Box) (g : Ghosts) → Move b g → b .state .phase ≡ 5 → 6 ≤ p → p ≤ 7 → Within b (copied-box p b)
 copies-within p b g m q l u =
     record {
-      m-same = refl;
-      h-same = refl;
-      registers-same = refl;
-      register-flags-same = refl;
-      top-same = refl;
-      free-same = refl;
-      live-same = refl;
-      current-same = refl;
-      next-same = refl;
-      src-same = refl;
-      dest-same = refl;
-      tuple-same = refl;
-      size-same = refl;
-      held-same = refl;
-      hold-same = refl;
-      addresses-same = refl;
-      sizes-same = refl;
-      links-same = refl;
-      marks-same = refl;
-      deeps-same = refl;
+      still = search;
       words-length = refl;
       flags-length = refl;
       phase-before = omega arith;

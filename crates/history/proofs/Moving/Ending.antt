@@ -29,21 +29,7 @@ record Ends (b c : Box) : Type 0 where
 ends : (b : Box) → Ends b (moved-last-box b)
 ends b =
     record {
-      settles = record {
-        m-same = refl;
-        h-same = refl;
-        registers-same = refl;
-        register-flags-same = refl;
-        held-same = refl;
-        hold-same = refl;
-        addresses-set = refl;
-        sizes-same = refl;
-        links-same = refl;
-        marks-same = refl;
-        deeps-same = refl;
-        words-same = refl;
-        flags-same = refl;
-      };
+      settles = search;
       top-is = refl;
       free-same = refl;
       next-same = refl;
@@ -52,22 +38,7 @@ ends b =
 
 rest-settles : (b c : Box) → Settles b c → Settles b (at-rest c)
 unfolding at-rest
-rest-settles b c w =
-    record {
-      m-same = w .m-same;
-      h-same = w .h-same;
-      registers-same = w .registers-same;
-      register-flags-same = w .register-flags-same;
-      held-same = w .held-same;
-      hold-same = w .hold-same;
-      addresses-set = w .addresses-set;
-      sizes-same = w .sizes-same;
-      links-same = w .links-same;
-      marks-same = w .marks-same;
-      deeps-same = w .deeps-same;
-      words-same = w .words-same;
-      flags-same = w .flags-same;
-    }
+rest-settles b c w = search
 
 rest-phase : (c : Box) → at-rest c .state .phase ≡ 0
 unfolding at-rest

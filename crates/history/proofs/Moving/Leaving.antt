@@ -38,21 +38,7 @@ record Leaves (b c : Box) : Type 0 where
 leaves : (b : Box) → Leaves b (moved-box b)
 leaves b =
     record {
-      settles = record {
-        m-same = refl;
-        h-same = refl;
-        registers-same = refl;
-        register-flags-same = refl;
-        held-same = refl;
-        hold-same = refl;
-        addresses-set = refl;
-        sizes-same = refl;
-        links-same = refl;
-        marks-same = refl;
-        deeps-same = refl;
-        words-same = refl;
-        flags-same = refl;
-      };
+      settles = search;
       top-same = refl;
       free-same = refl;
       live-same = refl;

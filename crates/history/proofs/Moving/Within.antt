@@ -17,7 +17,8 @@ use Rattle.history.proofs.Lists.Laid.{laid-frame, laid-to, rooms-frame}
 use Rattle.history.proofs.Invariant.Frame.{hold-of, SameShape, shape-same, handles-same, marks-same, kept-same, Quiet, quiet-contents, quiet-calm, Next}
 use Rattle.history.proofs.Moving.Tuple.{Lies, moved, below, above, lies, done-below, ahead-above}
 
-pub record Within (b c : Box) : Type 0 where
+-- all but the words of memory, phase, index and copy
+pub record Still (b c : Box) : Type 0 where
   pub m-same : c .state .m ≡ b .state .m
   pub h-same : c .state .h ≡ b .state .h
   pub registers-same : c .state .registers ≡ b .state .registers
@@ -38,6 +39,9 @@ pub record Within (b c : Box) : Type 0 where
   pub links-same : c .links ≡ b .links
   pub marks-same : c .marks ≡ b .marks
   pub deeps-same : c .deeps ≡ b .deeps
+
+pub record Within (b c : Box) : Type 0 where
+  pub still : Still b c
   pub words-length : length (c .words) ≡ length (b .words)
   pub flags-length : length (c .flags) ≡ length (b .flags)
   pub phase-before : 4 ≤ b .state .phase
@@ -53,31 +57,31 @@ zeroed-to z g = record { plan = g .plan; free = g .free; scans = g .scans; zeroe
 same-shape : (b c : Box) → Within b c → SameShape b c
 same-shape b c w =
     record {
-      m-same = w .m-same;
-      h-same = w .h-same;
+      m-same = w .still .m-same;
+      h-same = w .still .h-same;
       words-same = w .words-length;
       flags-same = w .flags-length;
-      addresses-same = ap length (w .addresses-same);
-      sizes-same = ap length (w .sizes-same);
-      links-same = ap length (w .links-same);
-      marks-same = ap length (w .marks-same);
-      deeps-same = ap length (w .deeps-same);
-      registers-same = ap length (w .registers-same);
-      register-flags-same = ap length (w .register-flags-same);
-      held-same = λ e. (sym (w .held-same) ∙ e, w .hold-same);
+      addresses-same = ap length (w .still .addresses-same);
+      sizes-same = ap length (w .still .sizes-same);
+      links-same = ap length (w .still .links-same);
+      marks-same = ap length (w .still .marks-same);
+      deeps-same = ap length (w .still .deeps-same);
+      registers-same = ap length (w .still .registers-same);
+      register-flags-same = ap length (w .still .register-flags-same);
+      held-same = λ e. (sym (w .still .held-same) ∙ e, w .still .hold-same);
     }
 
 address-same : (b c : Box) → Within b c → (h : ℕ) → address h c ≡ address h b
-address-same b c w h = ap (λ (s : List ℕ). getD s h 0) (w .addresses-same)
+address-same b c w h = ap (λ (s : List ℕ). getD s h 0) (w .still .addresses-same)
 
 size-same : (b c : Box) → Within b c → (h : ℕ) → size-of h c ≡ size-of h b
-size-same b c w h = ap (λ (s : List ℕ). getD s h 0) (w .sizes-same)
+size-same b c w h = ap (λ (s : List ℕ). getD s h 0) (w .still .sizes-same)
 
 mark-same : (b c : Box) → Within b c → (h : ℕ) → marked h c ≡ marked h b
-mark-same b c w h = ap (λ (s : List Bool). getD s h false) (w .marks-same)
+mark-same b c w h = ap (λ (s : List Bool). getD s h false) (w .still .marks-same)
 
 deep-same : (b c : Box) → Within b c → (h : ℕ) → deep h c ≡ deep h b
-deep-same b c w h = ap (λ (s : List Bool). getD s h false) (w .deeps-same)
+deep-same b c w h = ap (λ (s : List Bool). getD s h false) (w .still .deeps-same)
 
 -- the words of the kept tuples
 within-words : (b c : Box) (g : Ghosts) → Inv b g → Move b g → Within b c → (h : ℕ) → Kept b (g .plan) h → (i : ℕ) → i ≤ size-of h b → word h i c ≡ word h i b
@@ -85,7 +89,7 @@ within-words b c g v m w h k i l = place (lies b g v m h k)
   where
     elsewhere : h ≢ b .state .tuple → word-at (address h b + i) c ≡ word-at (address h b + i) b → word h i c ≡ word h i b
     elsewhere n e =
-        let nc : h ≢ c .state .tuple = λ q. n (q ∙ w .tuple-same) in
+        let nc : h ≢ c .state .tuple = λ q. n (q ∙ w .still .tuple-same) in
         word-other h i c nc ∙ ap (λ (a : ℕ). word-at (a + i) c) (address-same b c w h) ∙ e ∙ sym (word-other h i b n)
 
     place : Lies b h → word h i c ≡ word h i b
@@ -113,15 +117,15 @@ within-quiet b c g v m w =
     late-b l = omega (arith, w .phase-before)
 
     roots : (r : ℕ) → register r c ≡ register r b
-    roots r = λ i. record { bits = getD (w .registers-same i) r 0; flag = getD (w .register-flags-same i) r false }
+    roots r = λ i. record { bits = getD (w .still .registers-same i) r 0; flag = getD (w .still .register-flags-same i) r false }
 
 within-layout : (b c : Box) (g : Ghosts) → Inv b g → Move b g → Within b c → Layout c (g .plan)
 within-layout b c g v m w =
     record {
       done-laid = laid-frame b c 0 (g .plan .done) (g .plan .low) (λ h x. address-same b c w h) (λ h x. size-same b c w h) low (v .layout .done-laid);
-      ahead-laid = laid-to c (g .plan .base) (g .plan .ahead) (b .state .top) (c .state .top) (sym (w .top-same)) (laid-frame b c (g .plan .base) (g .plan .ahead) (b .state .top) (λ h x. address-same b c w h) (λ h x. size-same b c w h) high (v .layout .ahead-laid));
+      ahead-laid = laid-to c (g .plan .base) (g .plan .ahead) (b .state .top) (c .state .top) (sym (w .still .top-same)) (laid-frame b c (g .plan .base) (g .plan .ahead) (b .state .top) (λ h x. address-same b c w h) (λ h x. size-same b c w h) high (v .layout .ahead-laid));
       low-base = rw (rooms-frame b c (g .plan .mid) (λ h x. size-same b c w h)) (v .layout .low-base);
-      top-fits = rw (w .top-same, w .m-same) (v .layout .top-fits);
+      top-fits = rw (w .still .top-same, w .still .m-same) (v .layout .top-fits);
     }
   where
     low : (h : ℕ) → Member h (g .plan .done) → word-at (address h b) c ≡ word-at (address h b) b
@@ -135,13 +139,13 @@ within-move : (b c : Box) (g : Ghosts) (z : ℕ) → Move b g → Within b c →
 within-move b c g z m w =
     record {
       unlisted = record { no-nexts = m .unlisted .no-nexts; no-currents = m .unlisted .no-currents; no-gray = m .unlisted .no-gray };
-      mid-is = m .mid-is ∙ ap (λ (h : ℕ). h ∷ []) (sym (w .tuple-same));
-      low-is = m .low-is ∙ sym (w .dest-same);
-      base-is = rw (w .src-same, w .size-same) (m .base-is);
-      downward = rw (w .src-same, w .dest-same) (m .downward);
-      src-is = ap (λ (h : ℕ). address h c) (w .tuple-same) ∙ address-same b c w (b .state .tuple) ∙ m .src-is ∙ sym (w .src-same);
-      size-is = ap (λ (h : ℕ). size-of h c) (w .tuple-same) ∙ size-same b c w (b .state .tuple) ∙ m .size-is ∙ sym (w .size-same);
-      control = subst (λ (h : ℕ). Control (word h 0 c) h) (sym (w .tuple-same)) (subst (λ (v : Word). Control v (b .state .tuple)) (sym (w .words-moved 0 (omega arith))) (m .control));
+      mid-is = m .mid-is ∙ ap (λ (h : ℕ). h ∷ []) (sym (w .still .tuple-same));
+      low-is = m .low-is ∙ sym (w .still .dest-same);
+      base-is = rw (w .still .src-same, w .still .size-same) (m .base-is);
+      downward = rw (w .still .src-same, w .still .dest-same) (m .downward);
+      src-is = ap (λ (h : ℕ). address h c) (w .still .tuple-same) ∙ address-same b c w (b .state .tuple) ∙ m .src-is ∙ sym (w .still .src-same);
+      size-is = ap (λ (h : ℕ). size-of h c) (w .still .tuple-same) ∙ size-same b c w (b .state .tuple) ∙ m .size-is ∙ sym (w .still .size-same);
+      control = subst (λ (h : ℕ). Control (word h 0 c) h) (sym (w .still .tuple-same)) (subst (λ (v : Word). Control v (b .state .tuple)) (sym (w .words-moved 0 (omega arith))) (m .control));
     }
 
 -- with the zero words and the stage, the invariant
@@ -152,11 +156,11 @@ within b c g z v m w zs st =
       ghosts = zeroed-to z g;
       inv = record {
         shape = shape-same b c (same-shape b c w) (v .shape);
-        handles = handles-same b c (g .plan) (g .free) (w .h-same) (rw (w .links-same, w .free-same) (v .handles .free-chain)) (v .handles);
+        handles = handles-same b c (g .plan) (g .free) (w .still .h-same) (rw (w .still .links-same, w .still .free-same) (v .handles .free-chain)) (v .handles);
         layout = within-layout b c g v m w;
         contents = quiet-contents b (g .plan) c (g .plan) q (v .contents);
         zero-words = zs;
-        marks = marks-same b c (g .plan) (g .free) (g .scans) (mark-same b c w) (deep-same b c w) (size-same b c w) (w .links-same) (w .live-same) (w .next-same) (w .current-same) (λ l. absurd (late l)) (λ l. absurd (late l)) (v .marks);
+        marks = marks-same b c (g .plan) (g .free) (g .scans) (mark-same b c w) (deep-same b c w) (size-same b c w) (w .still .links-same) (w .still .live-same) (w .still .next-same) (w .still .current-same) (λ l. absurd (late l)) (λ l. absurd (late l)) (v .marks);
         stage = st (within-move b c g z m w);
       };
       calm = quiet-calm b (g .plan) c (g .plan) q;

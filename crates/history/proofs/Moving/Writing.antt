@@ -40,26 +40,7 @@ writes-within : (b : Box) (g : Ghosts) → Move b g → b .state .phase ≡ 7 �
 unfolding write-copy
 writes-within b g m p l w =
     record {
-      m-same = refl;
-      h-same = refl;
-      registers-same = refl;
-      register-flags-same = refl;
-      top-same = refl;
-      free-same = refl;
-      live-same = refl;
-      current-same = refl;
-      next-same = refl;
-      src-same = refl;
-      dest-same = refl;
-      tuple-same = refl;
-      size-same = refl;
-      held-same = refl;
-      hold-same = refl;
-      addresses-same = refl;
-      sizes-same = refl;
-      links-same = refl;
-      marks-same = refl;
-      deeps-same = refl;
+      still = search;
       words-length = simp length-set;
       flags-length = simp length-set;
       phase-before = omega arith;

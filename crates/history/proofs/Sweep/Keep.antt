@@ -1,7 +1,7 @@
 -- A marked tuple that is in place stays there: the transitions of phase 4 that unmark it and settle it, with another tuple behind it
 -- and as the last one. The settled gain it at their end, and every group of clauses is read off the invariant before. Assumes nothing.
 use Prim.Native.Nat.{ℕ, _+_}
-use mathlib.Core.Bool.{true, false}
+use mathlib.Core.Bool.{true}
 use mathlib.Core.List.{List, [], _∷_, _++_}
 use mathlib.Core.Logic.{_≢_, _⊎_, inl, inr}
 use mathlib.Core.Path.{_≡_, refl, sym, _∙_, ap, subst}
@@ -28,21 +28,7 @@ kept-plan b ds hs = sweep-plan (swept-after b) (swept-after b) (ds ++ (b .state 
 
 module _ (b : Box) (ds hs free : List ℕ) (v : Inv b (scan-ghosts b ds hs free)) (ph : b .state .phase ≡ 4) (mk : marked (b .state .tuple) b ≡ true) (at-dest : b .state .src ≡ b .state .dest) where
   keep-shape : SameShape b (kept-box b)
-  keep-shape =
-      record {
-        m-same = refl;
-        h-same = refl;
-        words-same = refl;
-        flags-same = refl;
-        addresses-same = refl;
-        sizes-same = refl;
-        links-same = refl;
-        marks-same = length-set (b .marks) (b .state .tuple) false;
-        deeps-same = refl;
-        registers-same = refl;
-        register-flags-same = refl;
-        held-same = λ e. (e, refl);
-      }
+  keep-shape = search length-set
 
   keep-settled-laid : Laid b 0 (ds ++ (b .state .tuple ∷ [])) (swept-after b)
   keep-settled-laid =
@@ -125,21 +111,7 @@ keeps b g v ph mk at-dest more =
 
 module _ (b : Box) (ds free : List ℕ) (v : Inv b (scan-ghosts b ds [] free)) (ph : b .state .phase ≡ 4) (mk : marked (b .state .tuple) b ≡ true) (at-dest : b .state .src ≡ b .state .dest) where
   last-shape : SameShape b (kept-last-box b)
-  last-shape =
-      record {
-        m-same = refl;
-        h-same = refl;
-        words-same = refl;
-        flags-same = refl;
-        addresses-same = refl;
-        sizes-same = refl;
-        links-same = refl;
-        marks-same = length-set (b .marks) (b .state .tuple) false;
-        deeps-same = refl;
-        registers-same = refl;
-        register-flags-same = refl;
-        held-same = λ e. (e, refl);
-      }
+  last-shape = search length-set
 
   last-laid : Laid (kept-last-box b) 0 (ds ++ (b .state .tuple ∷ [])) (b .state .top)
   last-laid =

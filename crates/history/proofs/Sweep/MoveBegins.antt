@@ -26,21 +26,7 @@ move-begun-ghosts b ds hs free = record { plan = move-begun-plan b ds hs; free =
 
 module _ (b : Box) (ds hs free : List ℕ) (v : Inv b (scan-ghosts b ds hs free)) (ph : b .state .phase ≡ 4) (mk : marked (b .state .tuple) b ≡ true) (away : b .state .src ≢ b .state .dest) where
   begun-shape : SameShape b (move-begun-box b)
-  begun-shape =
-      record {
-        m-same = refl;
-        h-same = refl;
-        words-same = refl;
-        flags-same = refl;
-        addresses-same = refl;
-        sizes-same = refl;
-        links-same = refl;
-        marks-same = length-set (b .marks) (b .state .tuple) false;
-        deeps-same = refl;
-        registers-same = refl;
-        register-flags-same = refl;
-        held-same = λ e. (e, refl);
-      }
+  begun-shape = search length-set
 
   begun-layout : Layout (move-begun-box b) (move-begun-plan b ds hs)
   begun-layout =

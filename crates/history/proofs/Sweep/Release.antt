@@ -43,21 +43,7 @@ module _ (b : Box) (ds hs free : List ℕ) (v : Inv b (scan-ghosts b ds hs free)
   freed-unmarked h (inr x) = v .marks .free-unmarked h x
 
   freed-shape : SameShape b (freed-box s t n p b)
-  freed-shape =
-      record {
-        m-same = refl;
-        h-same = refl;
-        words-same = refl;
-        flags-same = refl;
-        addresses-same = refl;
-        sizes-same = refl;
-        links-same = length-set (b .links) (b .state .tuple) (b .state .free);
-        marks-same = refl;
-        deeps-same = refl;
-        registers-same = refl;
-        register-flags-same = refl;
-        held-same = λ e. (e, refl);
-      }
+  freed-shape = search length-set
 
   freed-layout : Layout (freed-box s t n p b) (freed-plan b ds hs)
   freed-layout =

@@ -2,7 +2,7 @@
 -- written lies between what is settled and what lies ahead, so no kept tuple has it. Every group is read off the invariant before.
 -- Assumes nothing.
 use Prim.Native.Nat.{ℕ, _+_, _≤_, _<_}
-use mathlib.Core.Bool.{true, false}
+use mathlib.Core.Bool.{true}
 use mathlib.Core.List.{List, [], _∷_, _++_}
 use mathlib.Core.Logic.{_≢_, _⊎_, inl, inr}
 use mathlib.Core.Path.{_≡_, refl, sym, _∙_, ap, subst}
@@ -39,21 +39,7 @@ module _ (b : Box) (ds hs free : List ℕ) (v : Inv b (zero-ghosts b ds hs free)
   zeroed-here = put-same (b .state .src + b .state .index) (data-word 0) b (omega (arith, zeroed-below-top, v .layout .top-fits, v .shape .words-length)) (omega (arith, zeroed-below-top, v .layout .top-fits, v .shape .flags-length))
 
   zeroed-shape : SameShape b (zeroed-box b)
-  zeroed-shape =
-      record {
-        m-same = refl;
-        h-same = refl;
-        words-same = length-set (b .words) (b .state .src + b .state .index) 0;
-        flags-same = length-set (b .flags) (b .state .src + b .state .index) false;
-        addresses-same = refl;
-        sizes-same = refl;
-        links-same = refl;
-        marks-same = refl;
-        deeps-same = refl;
-        registers-same = refl;
-        register-flags-same = refl;
-        held-same = λ e. (e, refl);
-      }
+  zeroed-shape = search length-set
 
   zeroed-layout : Layout (zeroed-box b) (zero-ghosts b ds hs free .plan)
   zeroed-layout =
@@ -123,21 +109,7 @@ zero-on-box b = with-state (with-src (after b) (with-tuple (handle-of (word-at (
 
 module _ (b : Box) (ds hs free : List ℕ) (v : Inv b (zero-ghosts b ds hs free)) (ph : b .state .phase ≡ 8) (through : b .state .index ≡ b .state .size + 1) (more : after b ≢ b .state .top) where
   zero-on-shape : SameShape b (zero-on-box b)
-  zero-on-shape =
-      record {
-        m-same = refl;
-        h-same = refl;
-        words-same = refl;
-        flags-same = refl;
-        addresses-same = refl;
-        sizes-same = refl;
-        links-same = refl;
-        marks-same = refl;
-        deeps-same = refl;
-        registers-same = refl;
-        register-flags-same = refl;
-        held-same = λ e. (e, refl);
-      }
+  zero-on-shape = search
 
   zero-on-quiet : Quiet b (zero-ghosts b ds hs free .plan) (zero-on-box b) (zero-ghosts b ds hs free .plan)
   zero-on-quiet =
@@ -175,21 +147,7 @@ zero-on b g v ph past more =
 
 module _ (b : Box) (ds free : List ℕ) (v : Inv b (zero-ghosts b ds [] free)) (ph : b .state .phase ≡ 8) (order : b .state .dest ≤ b .state .src) (through : b .state .index ≡ b .state .size + 1) where
   zeroed-last-shape : SameShape b (zeroed-last-box b)
-  zeroed-last-shape =
-      record {
-        m-same = refl;
-        h-same = refl;
-        words-same = refl;
-        flags-same = refl;
-        addresses-same = refl;
-        sizes-same = refl;
-        links-same = refl;
-        marks-same = refl;
-        deeps-same = refl;
-        registers-same = refl;
-        register-flags-same = refl;
-        held-same = λ e. (e, refl);
-      }
+  zeroed-last-shape = search
 
   -- live is dest, and all from there on is data 0
   zeroed-last-live : b .state .live ≡ b .state .dest
