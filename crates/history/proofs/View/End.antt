@@ -1,0 +1,84 @@
+-- The view of the end of a cycle: for the box before the step and the box as its rule leaves it, which of the five outcomes the
+-- cycle ends with, and the facts that led there. They speak of the box that the rule leaves: rest changes only live and the
+-- phase, so they are the facts of the box at rest. Assumes nothing.
+use Prim.Native.Nat.{_+_, _≤_, _<_}
+use mathlib.Core.Bool.{true, false}
+use mathlib.Core.Logic.{_≢_, _⊎_, inl, inr}
+use mathlib.Core.Path.{_≡_, refl, _∙_}
+use borrow.Author.Tests.{lt-ltb, le-ltb}
+use Rattle.memory.specs.Limits.{register-count}
+use Rattle.memory.specs.Box.{Box, reply}
+use Rattle.memory.specs.Collector.{at-rest, unheld, granted, try-held, settle, end-cycle}
+use Rattle.history.proofs.View.Tests.{lt?, true?, Entry, entry?, Room, NoRoom, room?, no-room-true, no-room-false, can-make-rest, can-make-lost}
+
+pub data Ending (found b : Box) : Type 0 where
+  ends-free : b .state .held ≡ false → end-cycle found b ≡ reply (at-rest b) 31 → Ending found b
+  ends-held : b .state .held ≡ true → NoRoom (b .state .«hold_size») b → b .state .begun ≡ false
+      → end-cycle found b ≡ reply (at-rest b) 33 → Ending found b
+  ends-dropped : b .state .held ≡ true → NoRoom (b .state .«hold_size») b → b .state .begun ≡ true
+      → end-cycle found b ≡ reply (unheld (at-rest b)) 8 → Ending found b
+  ends-granted : b .state .held ≡ true → b .state .free ≢ 0 → b .state .top + b .state .«hold_size» + 1 ≤ b .state .m
+      → b .state .«hold_register» < register-count → Entry (b .state .free) b
+      → end-cycle found b ≡ reply (granted (at-rest b)) 32 → Ending found b
+  ends-lost : b .state .held ≡ true → b .state .free ≢ 0 → b .state .top + b .state .«hold_size» + 1 ≤ b .state .m
+      → (register-count ≤ b .state .«hold_register») ⊎ (¬ Entry (b .state .free) b)
+      → end-cycle found b ≡ reply found 9 → Ending found b
+
+-- ---- the box at rest, and the held request tried again
+
+settle-free : (found b : Box) → b .state .held ≡ false → settle found b ≡ reply b 31
+unfolding settle
+settle-free found b f = simp f
+
+settle-held : (found b : Box) → b .state .held ≡ true → settle found b ≡ try-held found b
+unfolding settle
+settle-held found b h = simp h
+
+try-again : (found b : Box) → NoRoom (b .state .«hold_size») b → b .state .begun ≡ false → try-held found b ≡ reply b 33
+unfolding try-held
+try-again found b n g = simp (no-room-true (b .state .«hold_size») b n, g)
+
+try-last : (found b : Box) → NoRoom (b .state .«hold_size») b → b .state .begun ≡ true → try-held found b ≡ reply (unheld b) 8
+unfolding try-held
+try-last found b n g = simp (no-room-true (b .state .«hold_size») b n, g)
+
+try-granted : (found b : Box) → Room (b .state .«hold_size») b → b .state .«hold_register» < register-count → Entry (b .state .free) b
+    → b .state .phase ≡ 0 → try-held found b ≡ reply (granted b) 32
+unfolding try-held
+try-granted found b m r e p =
+    simp (no-room-false (b .state .«hold_size») b m, lt-ltb (b .state .«hold_register») register-count r, can-make-rest (b .state .«hold_size») b e p)
+
+try-no-register : (found b : Box) → Room (b .state .«hold_size») b → register-count ≤ b .state .«hold_register» → try-held found b ≡ reply found 9
+unfolding try-held
+try-no-register found b m r = simp (no-room-false (b .state .«hold_size») b m, le-ltb (b .state .«hold_register») register-count r)
+
+try-no-entry : (found b : Box) → Room (b .state .«hold_size») b → b .state .«hold_register» < register-count → ¬ Entry (b .state .free) b
+    → try-held found b ≡ reply found 9
+unfolding try-held
+try-no-entry found b m r e =
+    simp (no-room-false (b .state .«hold_size») b m, lt-ltb (b .state .«hold_register») register-count r, can-make-lost (b .state .«hold_size») b e)
+
+-- ---- any end of a cycle
+
+pub ending : (found b : Box) → Ending found b
+unfolding end-cycle at-rest
+ending found b = by-held (true? (b .state .held))
+  where
+    by-begun : b .state .held ≡ true → NoRoom (b .state .«hold_size») b → (b .state .begun ≡ true) ⊎ (b .state .begun ≡ false) → Ending found b
+    by-begun h n (inl g) = ends-dropped h n g (settle-held found (at-rest b) h ∙ try-last found (at-rest b) n g)
+    by-begun h n (inr g) = ends-held h n g (settle-held found (at-rest b) h ∙ try-again found (at-rest b) n g)
+
+    by-register : b .state .held ≡ true → Room (b .state .«hold_size») b → Entry (b .state .free) b ⊎ (¬ Entry (b .state .free) b)
+        → (b .state .«hold_register» < register-count) ⊎ (register-count ≤ b .state .«hold_register») → Ending found b
+    by-register h m (inl e) (inl r) = ends-granted h (m .0) (m .1) r e (settle-held found (at-rest b) h ∙ try-granted found (at-rest b) m r e refl)
+    by-register h m (inr e) (inl r) = ends-lost h (m .0) (m .1) (inr e) (settle-held found (at-rest b) h ∙ try-no-entry found (at-rest b) m r e)
+    by-register h m (inl e) (inr r) = ends-lost h (m .0) (m .1) (inl r) (settle-held found (at-rest b) h ∙ try-no-register found (at-rest b) m r)
+    by-register h m (inr e) (inr r) = ends-lost h (m .0) (m .1) (inl r) (settle-held found (at-rest b) h ∙ try-no-register found (at-rest b) m r)
+
+    by-room : b .state .held ≡ true → NoRoom (b .state .«hold_size») b ⊎ Room (b .state .«hold_size») b → Ending found b
+    by-room h (inl n) = by-begun h n (true? (b .state .begun))
+    by-room h (inr m) = by-register h m (entry? (b .state .free) b) (lt? (b .state .«hold_register») register-count)
+
+    by-held : (b .state .held ≡ true) ⊎ (b .state .held ≡ false) → Ending found b
+    by-held (inl h) = by-room h (room? (b .state .«hold_size») b)
+    by-held (inr f) = ends-free f (settle-free found (at-rest b) f)
