@@ -9,8 +9,8 @@ use mathlib.Core.List.{[]}
 use mathlib.Core.Logic.{_≢_}
 use mathlib.Core.Path.{_≡_, refl, sym, _∙_, ap, subst}
 use native.Mathlib.Omega.{arith}
-use Rattle.memory.specs.declared.request.Request.{Request}
-use Rattle.memory.specs.declared.request.Request.the-variants.{Getm}
+use Rattle.memory.specs.declared.kinds.Request.{Request}
+use Rattle.memory.specs.declared.kinds.Request.the-variants.{Getm}
 use Rattle.memory.specs.Limits.{register-count, in-range}
 use Rattle.memory.specs.Box.{Box, Reply, reply, data-word, word-at, tag-of, register, size-of, lengths-are, right-sizes}
 use Rattle.memory.specs.Place.{place, read}

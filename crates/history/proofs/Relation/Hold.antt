@@ -7,8 +7,8 @@ use mathlib.Core.Option.{Option, none, some}
 use mathlib.Core.Path.{_≡_, refl}
 use lib.Dec.{ltb}
 use lib.ListN.{length, length-set, length-replicate}
-use Rattle.memory.specs.declared.request.Request.{Request}
-use Rattle.memory.specs.declared.request.Request.the-variants.{Setd, Nil, Move, Advance, Getm, Load, Store, Size, Tag, Same}
+use Rattle.memory.specs.declared.kinds.Request.{Request}
+use Rattle.memory.specs.declared.kinds.Request.the-variants.{Setd, Nil, Move, Advance, Getm, Load, Store, Size, Tag, Same}
 use Rattle.memory.specs.Limits.{register-count}
 use Rattle.memory.specs.Box.{Box}
 use Rattle.memory.specs.Request.{hold}

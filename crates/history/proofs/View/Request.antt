@@ -7,8 +7,8 @@ use mathlib.Core.Logic.{_≢_, _⊎_, inl, inr}
 use mathlib.Core.Path.{_≡_, _∙_}
 use native.Mathlib.Omega.{arith}
 use borrow.Author.Tests.{ltb-true, not-true, lt-ltb, le-ltb, le-leb, lt-leb, eq-eqb, ne-eqb}
-use Rattle.memory.specs.declared.request.Request.{Request}
-use Rattle.memory.specs.declared.request.Request.the-variants.{Setd, Nil, Move, Advance, Getm, Load, Store, Size, Tag, Same}
+use Rattle.memory.specs.declared.kinds.Request.{Request}
+use Rattle.memory.specs.declared.kinds.Request.the-variants.{Setd, Nil, Move, Advance, Getm, Load, Store, Size, Tag, Same}
 use Rattle.memory.specs.Limits.{half-word, register-count}
 use Rattle.memory.specs.Box.{Box, Word, Reply, reply, data-word, pointer, handle-of, offset-of, tag-of, is-nil, names-tuple, register, put-register, size-of, marked, set-deep, sound}
 use Rattle.memory.specs.Place.{Place, place, in-memory, read, write, can-shade, shade}
