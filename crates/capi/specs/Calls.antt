@@ -6,8 +6,8 @@ use mathlib.Core.List.{List}
 use mathlib.Core.Option.{Option, none, some}
 use lib.Dec.{eqb, ltb}
 use lib.ListN.{length}
-use Rattle.memory.specs.declared.request.Request.{Request}
-use Rattle.memory.specs.declared.request.Request.the-variants.{Setd, Nil, Move, Advance, Getm, Load, Store, Size, Tag, Same}
+use Rattle.memory.specs.declared.kinds.Request.{Request}
+use Rattle.memory.specs.declared.kinds.Request.the-variants.{Setd, Nil, Move, Advance, Getm, Load, Store, Size, Tag, Same}
 use Rattle.memory.specs.Box.{Box, Reply}
 use Rattle.memory.specs.Request as memory-request
 use Rattle.memory.specs.Collector as memory-collector
@@ -35,6 +35,13 @@ pub record Lent : Type 0 where
   pub links : List ℕ
   pub marks : List Bool
   pub deeps : List Bool
+
+-- the parts as the code has them: what is lent, and what is left with the answer
+abbrev pub lent : List ℕ → List ℕ → List Bool → List ℕ → List ℕ → List ℕ → List Bool → List Bool → Lent
+lent st ws fs ads ss ls ms ds = record { state = st; words = ws; flags = fs; addresses = ads; sizes = ss; links = ls; marks = ms; deeps = ds }
+
+abbrev pub left : List ℕ → List ℕ → List Bool → List ℕ → List ℕ → List ℕ → List Bool → List Bool → ℕ → Answer
+left st ws fs ads ss ls ms ds a = record { state = st; words = ws; flags = fs; addresses = ads; sizes = ss; links = ls; marks = ms; deeps = ds; answer = a }
 
 -- the box that is lent
 unfoldable pub boxed-of : Lent → Box
