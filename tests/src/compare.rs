@@ -266,10 +266,16 @@ impl<M: Machine> Pair<M> {
                 self.ask(Ask::Run(budget)).map(drop)
             }
             Call::Run(budget) => {
-                // Mostly a part of a cycle, so that requests come in between.
-                let most = match rng.below(50) {
-                    0 => 8 * self.unit.state.m,
-                    _ => 300,
+                // Mostly a small part of a cycle, so that requests come in
+                // between; while one is held they would only be refused.
+                let State { m, top, hold, .. } = self.unit.state;
+                let most = match rng.below(400) {
+                    0 => 8 * m,
+                    _ if hold.held => 300,
+                    // No room on a large box: get on with the cycle.
+                    _ if m > 100 && top > m - m / 8 => m,
+                    _ if m > 100 => 50,
+                    _ => 20,
                 };
                 for _ in 0..budget.min(most) {
                     let answer = self.ask(Ask::Step)? as u32;
@@ -318,6 +324,10 @@ pub fn list<M: Machine>(
         at += 1;
         if at % 250 == 0 {
             style = Style::any(rng, m, h);
+            // On a large box a held request waits for thousands of steps.
+            if m > 100 && rng.percent(90) {
+                style.careful = 100;
+            }
         }
         let call = random::call(rng, &pair.unit, &style);
         pair.call(rng, call).map_err(context)?;

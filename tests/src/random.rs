@@ -601,8 +601,8 @@ pub fn uneven(rng: &mut Rng) -> Unit {
     length(rng, &mut unit.addresses, h, n);
     length(rng, &mut unit.sizes, h, n);
     length(rng, &mut unit.links, h, n);
-    length(rng, &mut unit.marks, h, n % 2 == 0);
-    length(rng, &mut unit.deeps, h, n % 3 == 0);
+    length(rng, &mut unit.marks, h, word.pointer);
+    length(rng, &mut unit.deeps, h, !word.pointer);
     unit
 }
 
