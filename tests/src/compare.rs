@@ -273,7 +273,7 @@ impl<M: Machine> Pair<M> {
                     0 => 8 * m,
                     _ if hold.held => 300,
                     // No room on a large box: get on with the cycle.
-                    _ if m > 100 && top > m - m / 8 => m,
+                    _ if m > 100 && top > m - m / 8 => 400,
                     _ if m > 100 => 50,
                     _ => 20,
                 };
@@ -325,11 +325,17 @@ pub fn list<M: Machine>(
         if at % 250 == 0 {
             style = Style::any(rng, m, h);
             // On a large box a held request waits for thousands of steps.
-            if m > 100 && rng.percent(90) {
+            if m > 100 && rng.percent(75) {
                 style.careful = 100;
             }
         }
-        let call = random::call(rng, &pair.unit, &style);
+        let mut call = random::call(rng, &pair.unit, &style);
+        if let Call::Request(Request::Getm { n, .. }) = &mut call {
+            // One GETM of all the room would leave a large box full for long.
+            if m > 100 && u32::from(*n) > style.words && rng.percent(85) {
+                *n = rng.below(style.words) as u16;
+            }
+        }
         pair.call(rng, call).map_err(context)?;
     }
     Ok(())
