@@ -15,6 +15,7 @@ use std::time::{Duration, Instant};
 
 use gloamish_tests::call::*;
 use gloamish_tests::capi;
+use gloamish_tests::compare::{Ask, Machine};
 use gloamish_tests::random::{self, Rng, Style};
 use gloamish_tests::{Lent, Player, Unit};
 
@@ -127,18 +128,18 @@ struct Times {
 }
 
 impl Times {
-    fn new() -> Times {
-        let least = vec![Duration::MAX; CALLS.div_ceil(PART)];
+    fn new(calls: usize) -> Times {
+        let least = vec![Duration::MAX; calls.div_ceil(PART)];
         Times { least, answers: 0 }
     }
 
     /// Plays a list once more.
-    fn turn<T: Copy>(&mut self, calls: &[T], mut play: impl FnMut(T) -> u32) {
+    fn turn<T: Copy>(&mut self, calls: &[T], mut play: impl FnMut(T) -> u64) {
         self.answers = 0;
         for (part, least) in calls.chunks(PART).zip(&mut self.least) {
             let start = Instant::now();
             for &call in part {
-                self.answers = self.answers.rotate_left(5) ^ u64::from(play(call));
+                self.answers = self.answers.rotate_left(5) ^ play(call);
             }
             *least = start.elapsed().min(*least);
         }
@@ -149,42 +150,64 @@ impl Times {
     }
 }
 
+/// The numbers that stand for a step and a run where requests have a kind.
+const STEP: u32 = 0;
+const RUN: u32 = u32::MAX;
+
+/// The same list with steps that follow each other as one run.
+fn as_runs(calls: &[Call]) -> Vec<Call> {
+    let mut list = Vec::new();
+    for &call in calls {
+        match (call, list.last_mut()) {
+            (Call::Step, Some(Call::Run(budget))) => *budget += 1,
+            (Call::Step, _) => list.push(Call::Run(1)),
+            _ => list.push(call),
+        }
+    }
+    list
+}
+
 /// Prints the ratio for one load; false if the two don't agree.
 fn measure(name: &str, calls: &[Call]) -> bool {
     let numbers: Vec<[u32; 4]> = calls
         .iter()
         .map(|&call| match call {
             Call::Request(request) => capi::numbers(request),
-            _ => [0; 4],
+            Call::Step => [STEP, 0, 0, 0],
+            Call::Run(budget) => [RUN, budget, 0, 0],
         })
         .collect();
     let unit = Unit::lent(M, H);
     let (mut player, mut lent) = (Player::of(&unit), Lent::of(&unit));
-    let (mut plain, mut through) = (Times::new(), Times::new());
+    let (mut plain, mut through) = (Times::new(calls.len()), Times::new(calls.len()));
     for _ in 0..TURNS {
         player.open(M, H);
         plain.turn(calls, |call| match call {
-            Call::Request(request) => player.request(request),
-            Call::Step => player.step(),
-            Call::Run(budget) => player.run(budget).answer,
+            Call::Request(request) => player.request(request).into(),
+            Call::Step => player.step().into(),
+            Call::Run(budget) => {
+                let ran = player.run(budget);
+                u64::from(ran.steps) * 256 + u64::from(ran.answer)
+            }
         });
         lent.open(M, H);
-        // Kind 0 is a step.
         through.turn(&numbers, |call| match call[0] {
-            0 => lent.step(),
-            _ => lent.request(call),
+            STEP => lent.step().into(),
+            RUN => lent.ask(Ask::Run(call[1])),
+            _ => lent.request(call).into(),
         });
         if plain.answers != through.answers || !lent.same(&player.unit()) {
             println!("{name}: the two do not agree");
             return false;
         }
     }
-    let steps = calls.iter().filter(|call| **call == Call::Step).count();
+    let requests = |call: &&Call| matches!(call, Call::Request(_));
     let each = |times: &Times| times.seconds() * 1e9 / calls.len() as f64;
     println!(
-        "{name}: ratio {:.2} ({} requests, {steps} steps; a call {:.1} ns, player {:.1} ns)",
+        "{name}: ratio {:.2} ({} calls, {} of them requests; {:.1} ns a call, player {:.1})",
         through.seconds() / plain.seconds(),
-        calls.len() - steps,
+        calls.len(),
+        calls.iter().filter(requests).count(),
         each(&through),
         each(&plain),
     );
@@ -203,7 +226,12 @@ fn main() -> ExitCode {
             vec![Call::Request(Request::Nil { r: 8 }); CALLS],
         ),
     ];
-    let agreed = loads.iter().all(|(name, calls)| measure(name, calls));
+    let mut agreed = loads.iter().all(|(name, calls)| measure(name, calls));
+    if Lent::RUNS {
+        for (name, calls) in &loads[..3] {
+            agreed &= measure(&format!("{name}, steps as runs"), &as_runs(calls));
+        }
+    }
     match agreed {
         true => ExitCode::SUCCESS,
         false => ExitCode::FAILURE,
