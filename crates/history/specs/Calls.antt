@@ -5,8 +5,8 @@ use mathlib.Core.Bool.{Bool, true, false, cond, _&&_}
 use mathlib.Core.List.{List, [], _∷_, _++_}
 use mathlib.Core.Option.{Option, none, some}
 use lib.Dec.{eqb}
-use Rattle.memory.specs.declared.request.Request.{Request}
-use Rattle.memory.specs.declared.request.Request.the-variants.{Setd, Nil, Move, Advance, Getm, Load, Store, Size, Tag, Same}
+use Rattle.memory.specs.declared.kinds.Request.{Request}
+use Rattle.memory.specs.declared.kinds.Request.the-variants.{Setd, Nil, Move, Advance, Getm, Load, Store, Size, Tag, Same}
 use Rattle.memory.specs.Limits.{half-word}
 use Rattle.memory.specs.Box.{Box, Reply, handle-of, register}
 use Rattle.memory.specs.Request.{request}

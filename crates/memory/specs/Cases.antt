@@ -7,8 +7,8 @@ use mathlib.Core.Option.{Option, none, some}
 use mathlib.Core.Path.{_≡_, refl}
 use lib.Dec.{eqb}
 use lib.ListN.{drop}
-use Rattle.memory.specs.declared.request.Request.{Request}
-use Rattle.memory.specs.declared.request.Request.the-variants.{Setd, Getm, Load, Store}
+use Rattle.memory.specs.declared.kinds.Request.{Request}
+use Rattle.memory.specs.declared.kinds.Request.the-variants.{Setd, Getm, Load, Store}
 use Rattle.memory.specs.Limits.{in-range}
 use Rattle.memory.specs.Box.{Box, Word, Reply, data-word, pointer, word-at, register, address, link, is-entry, lengths-are, right-sizes, sound}
 use Rattle.memory.specs.Place.{being-moved, place, in-memory, read, write, can-shade, list-next, mark-live, shade}

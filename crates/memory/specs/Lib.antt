@@ -1,6 +1,8 @@
 pub mod Limits
 pub mod State
 pub mod Box
+pub mod Boxed
+pub mod Found
 pub mod Place
 pub mod Request
 pub mod Collector

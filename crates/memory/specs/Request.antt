@@ -2,8 +2,8 @@
 use Prim.Native.Nat.{ℕ, _+_}
 use mathlib.Core.Bool.{Bool, true, false, not, cond, _&&_, _||_, Bool·beq}
 use lib.Dec.{leb, ltb, eqb}
-use Rattle.memory.specs.declared.request.Request.{Request}
-use Rattle.memory.specs.declared.request.Request.the-variants.{Setd, Nil, Move, Advance, Getm, Load, Store, Size, Tag, Same}
+use Rattle.memory.specs.declared.kinds.Request.{Request}
+use Rattle.memory.specs.declared.kinds.Request.the-variants.{Setd, Nil, Move, Advance, Getm, Load, Store, Size, Tag, Same}
 use Rattle.memory.specs.Limits.{half-word, register-count}
 use Rattle.memory.specs.State.{with-top, with-free, with-live, with-held, with-begun, with-hold-register, with-hold-size, with-hold-tag}
 use Rattle.memory.specs.Box.{Box, Word, Reply, reply, data-word, pointer, control-word, handle-of, offset-of, tag-of, is-nil, names-tuple, with-state, put, register, put-register, size-of, link, set-address, set-size, set-mark, set-deep, is-entry, sound}

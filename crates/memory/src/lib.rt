@@ -1,8 +1,22 @@
 // The memory unit: a memory of tagged words, a directory of tuples, eight registers, and a collector that does one
 // small step at a time. The lent parts are seven columns, in this order everywhere: words, flags (M each; flag true
 // means pointer), addresses, sizes, links, marks, deeps (H each). What each call does is said in specs/.
-mod request;
+mod access;
+mod find;
+mod kinds;
+mod mark;
+mod opening;
+mod place;
+mod registers;
+mod requests;
+mod shade;
+mod sound;
 mod state;
+mod store;
+mod tuple;
+mod word;
 
-pub use request::Request;
+pub use kinds::Request;
+pub use opening::open;
+pub use requests::request;
 pub use state::State;

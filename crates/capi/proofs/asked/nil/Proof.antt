@@ -1,0 +1,19 @@
+-- `asked::nil` meets its contract: each return is a case of the tests of its fields. Assumes nothing.
+use borrow.Author.Needs.{needs}
+use Rattle.capi.proofs.Fields.{too-large, fits}
+use Rattle.capi.proofs.asked.nil.Statement.{statement}
+use Rattle.capi.proofs.asked.nil.Tie as tie
+use Rattle.capi.proofs.asked.nil.Reads as reads
+use Rattle.capi.proofs.asked.nil.Lts as lts
+
+returns : tie.Need-returns
+returns c = simp (too-large _ (c .if1 .taken))
+
+cast-t3 : tie.Need-cast-t3
+cast-t3 c = search needs
+
+returns-2 : tie.Need-returns-2
+returns-2 c = simp (fits _ (c .if1 .left))
+
+pub nil-spec : {M : Type 1} → statement M
+nil-spec = tie.close (tie.spec returns cast-t3 returns-2)

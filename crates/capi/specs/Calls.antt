@@ -1,0 +1,94 @@
+-- What each function of the C interface does: it decodes the state, makes the call of the memory unit, and encodes the state that
+-- comes back; what is not understood changes nothing.
+use Prim.Native.Nat.{ℕ, zero, suc, _+_}
+use mathlib.Core.Bool.{Bool, true, false, cond, _&&_}
+use mathlib.Core.List.{List}
+use mathlib.Core.Option.{Option, none, some}
+use lib.Dec.{eqb, ltb}
+use lib.ListN.{length}
+use Rattle.memory.specs.declared.kinds.Request.{Request}
+use Rattle.memory.specs.declared.kinds.Request.the-variants.{Setd, Nil, Move, Advance, Getm, Load, Store, Size, Tag, Same}
+use Rattle.memory.specs.Box.{Box, Reply}
+use Rattle.memory.specs.Request as memory-request
+use Rattle.memory.specs.Collector as memory-collector
+use Rattle.memory.specs.Open as memory-open
+use Rattle.capi.specs.Wire.{state-length, not-understood, decoded, encoded}
+
+-- the lent numbers of the state, the seven columns, and the answer
+pub record Answer : Type 0 where
+  pub state : List ℕ
+  pub words : List ℕ
+  pub flags : List Bool
+  pub addresses : List ℕ
+  pub sizes : List ℕ
+  pub links : List ℕ
+  pub marks : List Bool
+  pub deeps : List Bool
+  pub answer : ℕ
+
+pub record Lent : Type 0 where
+  pub state : List ℕ
+  pub words : List ℕ
+  pub flags : List Bool
+  pub addresses : List ℕ
+  pub sizes : List ℕ
+  pub links : List ℕ
+  pub marks : List Bool
+  pub deeps : List Bool
+
+-- the parts as the code has them: what is lent, and what is left with the answer
+abbrev pub lent : List ℕ → List ℕ → List Bool → List ℕ → List ℕ → List ℕ → List Bool → List Bool → Lent
+lent st ws fs ads ss ls ms ds = record { state = st; words = ws; flags = fs; addresses = ads; sizes = ss; links = ls; marks = ms; deeps = ds }
+
+abbrev pub left : List ℕ → List ℕ → List Bool → List ℕ → List ℕ → List ℕ → List Bool → List Bool → ℕ → Answer
+left st ws fs ads ss ls ms ds a = record { state = st; words = ws; flags = fs; addresses = ads; sizes = ss; links = ls; marks = ms; deeps = ds; answer = a }
+
+-- the box that is lent
+unfoldable pub boxed-of : Lent → Box
+boxed-of l = record { words = l .words; flags = l .flags; addresses = l .addresses; sizes = l .sizes; links = l .links; marks = l .marks; deeps = l .deeps; state = decoded (l .state) }
+
+-- a reply of the memory unit, encoded
+unfoldable pub answered : Reply → Answer
+answered r = record { state = encoded (r .box .state); words = r .box .words; flags = r .box .flags; addresses = r .box .addresses; sizes = r .box .sizes; links = r .box .links; marks = r .box .marks; deeps = r .box .deeps; answer = r .answer }
+
+-- nothing changed
+unfoldable pub left-alone : Lent → Answer
+left-alone l = record { state = l .state; words = l .words; flags = l .flags; addresses = l .addresses; sizes = l .sizes; links = l .links; marks = l .marks; deeps = l .deeps; answer = not-understood }
+
+abbrev pub right-length : Lent → Bool
+right-length l = eqb (length (l .state)) state-length
+
+unfoldable pub c-open : ℕ → ℕ → Lent → Answer
+c-open m h l = cond (right-length l) (answered (memory-open.opening m h (boxed-of l))) (left-alone l)
+
+unfoldable pub c-step : Lent → Answer
+c-step l = cond (right-length l) (answered (memory-collector.step (boxed-of l))) (left-alone l)
+
+-- a 16-bit field
+abbrev pub half : ℕ → Bool
+half n = ltb n 65536
+
+abbrev pub if-right : Bool → Request → Option Request
+if-right t q = cond t (some q) none
+
+-- the request of a kind's number, with its fields in document 01's order; fields that a kind does not have are passed over
+unfoldable pub request-of : ℕ → ℕ → ℕ → ℕ → Option Request
+request-of zero a b c = none
+request-of (suc zero) a b c = if-right (half a) (Setd a b)
+request-of (suc (suc zero)) a b c = if-right (half a) (Nil a)
+request-of (suc (suc (suc zero))) a b c = if-right (half a && half b) (Move a b)
+request-of (suc (suc (suc (suc zero)))) a b c = if-right (half a && half b) (Advance a b)
+request-of (suc (suc (suc (suc (suc zero))))) a b c = if-right (half a && half b && half c) (Getm a b c)
+request-of (suc (suc (suc (suc (suc (suc zero)))))) a b c = if-right (half a && half b && half c) (Load a b c)
+request-of (suc (suc (suc (suc (suc (suc (suc zero))))))) a b c = if-right (half a && half b && half c) (Store a b c)
+request-of (suc (suc (suc (suc (suc (suc (suc (suc zero)))))))) a b c = if-right (half a && half b) (Size a b)
+request-of (suc (suc (suc (suc (suc (suc (suc (suc (suc zero))))))))) a b c = if-right (half a && half b) (Tag a b)
+request-of (suc (suc (suc (suc (suc (suc (suc (suc (suc (suc zero)))))))))) a b c = if-right (half a && half b && half c) (Same a b c)
+request-of (suc (suc (suc (suc (suc (suc (suc (suc (suc (suc (suc k))))))))))) a b c = none
+
+unfoldable pub c-asked : Option Request → Lent → Answer
+c-asked none l = left-alone l
+c-asked (some q) l = cond (right-length l) (answered (memory-request.request q (boxed-of l))) (left-alone l)
+
+unfoldable pub c-request : ℕ → ℕ → ℕ → ℕ → Lent → Answer
+c-request kind a b c l = c-asked (request-of kind a b c) l

@@ -1,0 +1,4 @@
+pub mod Wire
+pub mod Parts
+pub mod Calls
+pub mod Asked

@@ -1,0 +1,179 @@
+-- Requests by their kinds: the registers that each names, and what each does; and the order of refusals. Each computes from
+-- the definitions. Assumes nothing.
+use Prim.Native.Nat.{ℕ, _<_, _≤_}
+use mathlib.Core.Bool.{Bool, true, false, _&&_}
+use mathlib.Core.Path.{_≡_, sym, _∙_}
+use lib.Dec.{ltb}
+use borrow.Author.Tests.{ltb-true, lt-ltb, le-ltb}
+use Rattle.memory.specs.declared.kinds.Request.{Request}
+use Rattle.memory.specs.declared.kinds.Request.the-variants.{Setd, Nil, Move, Advance, Getm, Load, Store, Size, Tag, Same}
+use Rattle.memory.specs.Box.{Box, Reply, reply, data-word, pointer, register, put-register, sound}
+use Rattle.memory.specs.Request.{done, advance, getm, load, store, size, tag, same, is-register, registers-right, carry-out, request}
+use Rattle.memory.proofs.Sizes.{and-left, and-right}
+
+-- ---- registers
+
+pub both-left : (r s : ℕ) → r < 8 → ltb s 8 ≡ (is-register r && is-register s)
+both-left r s l = simp (lt-ltb r 8 l)
+
+pub both-not : (r s : ℕ) → 8 ≤ r → false ≡ (is-register r && is-register s)
+both-not r s l = simp (le-ltb r 8 l)
+
+two : (r s : ℕ) → (is-register r && is-register s) ≡ true → (r < 8) × (s < 8)
+two r s p = (ltb-true r 8 (and-left (is-register r) (is-register s) p), ltb-true s 8 (and-right (is-register r) (is-register s) p))
+
+three : (r s t : ℕ) → (is-register r && is-register s && is-register t) ≡ true → (r < 8) × (s < 8) × (t < 8)
+three r s t p =
+    let q = two r s (and-left (is-register r && is-register s) (is-register t) p) in
+    (q .0, q .1, ltb-true t 8 (and-right (is-register r && is-register s) (is-register t) p))
+
+-- ---- each kind
+
+module _ (q : Request) (r v : ℕ) (e : q ≡ Setd r v) where
+  pub names-setd : (y : Bool) → y ≡ is-register r → y ≡ registers-right q
+  unfolding registers-right
+  names-setd y p = rw e p
+
+  pub right-setd : registers-right q ≡ true → r < 8
+  unfolding registers-right
+  right-setd p = let t1 : is-register r ≡ true = rw e at p in ltb-true r 8 t1
+
+  pub does-setd : (b : Box) (x : Reply) → x ≡ done (put-register r (data-word v) b) → x ≡ carry-out q b
+  unfolding carry-out
+  does-setd b x p = rw e p
+
+module _ (q : Request) (r : ℕ) (e : q ≡ Nil r) where
+  pub names-nil : (y : Bool) → y ≡ is-register r → y ≡ registers-right q
+  unfolding registers-right
+  names-nil y p = rw e p
+
+  pub right-nil : registers-right q ≡ true → r < 8
+  unfolding registers-right
+  right-nil p = let t1 : is-register r ≡ true = rw e at p in ltb-true r 8 t1
+
+  pub does-nil : (b : Box) (x : Reply) → x ≡ done (put-register r (pointer 0 0) b) → x ≡ carry-out q b
+  unfolding carry-out
+  does-nil b x p = rw e p
+
+module _ (q : Request) (r s : ℕ) (e : q ≡ Move r s) where
+  pub names-move : (y : Bool) → y ≡ (is-register r && is-register s) → y ≡ registers-right q
+  unfolding registers-right
+  names-move y p = rw e p
+
+  pub right-move : registers-right q ≡ true → (r < 8) × (s < 8)
+  unfolding registers-right
+  right-move p = let t1 : (is-register r && is-register s) ≡ true = rw e at p in two r s t1
+
+  pub does-move : (b : Box) (x : Reply) → x ≡ done (put-register r (register s b) b) → x ≡ carry-out q b
+  unfolding carry-out
+  does-move b x p = rw e p
+
+module _ (q : Request) (r n : ℕ) (e : q ≡ Advance r n) where
+  pub names-advance : (y : Bool) → y ≡ is-register r → y ≡ registers-right q
+  unfolding registers-right
+  names-advance y p = rw e p
+
+  pub right-advance : registers-right q ≡ true → r < 8
+  unfolding registers-right
+  right-advance p = let t1 : is-register r ≡ true = rw e at p in ltb-true r 8 t1
+
+  pub does-advance : (b : Box) (x : Reply) → x ≡ advance r n b → x ≡ carry-out q b
+  unfolding carry-out
+  does-advance b x p = rw e p
+
+module _ (q : Request) (r n t : ℕ) (e : q ≡ Getm r n t) where
+  pub names-getm : (y : Bool) → y ≡ is-register r → y ≡ registers-right q
+  unfolding registers-right
+  names-getm y p = rw e p
+
+  pub right-getm : registers-right q ≡ true → r < 8
+  unfolding registers-right
+  right-getm p = let t1 : is-register r ≡ true = rw e at p in ltb-true r 8 t1
+
+  pub does-getm : (b : Box) (x : Reply) → x ≡ getm r n t b → x ≡ carry-out q b
+  unfolding carry-out
+  does-getm b x p = rw e p
+
+module _ (q : Request) (r s k : ℕ) (e : q ≡ Load r s k) where
+  pub names-load : (y : Bool) → y ≡ (is-register r && is-register s) → y ≡ registers-right q
+  unfolding registers-right
+  names-load y p = rw e p
+
+  pub right-load : registers-right q ≡ true → (r < 8) × (s < 8)
+  unfolding registers-right
+  right-load p = let t1 : (is-register r && is-register s) ≡ true = rw e at p in two r s t1
+
+  pub does-load : (b : Box) (x : Reply) → x ≡ load r s k b → x ≡ carry-out q b
+  unfolding carry-out
+  does-load b x p = rw e p
+
+module _ (q : Request) (r s k : ℕ) (e : q ≡ Store r s k) where
+  pub names-store : (y : Bool) → y ≡ (is-register r && is-register s) → y ≡ registers-right q
+  unfolding registers-right
+  names-store y p = rw e p
+
+  pub right-store : registers-right q ≡ true → (r < 8) × (s < 8)
+  unfolding registers-right
+  right-store p = let t1 : (is-register r && is-register s) ≡ true = rw e at p in two r s t1
+
+  pub does-store : (b : Box) (x : Reply) → x ≡ store r s k b → x ≡ carry-out q b
+  unfolding carry-out
+  does-store b x p = rw e p
+
+module _ (q : Request) (r s : ℕ) (e : q ≡ Size r s) where
+  pub names-size : (y : Bool) → y ≡ (is-register r && is-register s) → y ≡ registers-right q
+  unfolding registers-right
+  names-size y p = rw e p
+
+  pub right-size : registers-right q ≡ true → (r < 8) × (s < 8)
+  unfolding registers-right
+  right-size p = let t1 : (is-register r && is-register s) ≡ true = rw e at p in two r s t1
+
+  pub does-size : (b : Box) (x : Reply) → x ≡ size r s b → x ≡ carry-out q b
+  unfolding carry-out
+  does-size b x p = rw e p
+
+module _ (q : Request) (r s : ℕ) (e : q ≡ Tag r s) where
+  pub names-tag : (y : Bool) → y ≡ (is-register r && is-register s) → y ≡ registers-right q
+  unfolding registers-right
+  names-tag y p = rw e p
+
+  pub right-tag : registers-right q ≡ true → (r < 8) × (s < 8)
+  unfolding registers-right
+  right-tag p = let t1 : (is-register r && is-register s) ≡ true = rw e at p in two r s t1
+
+  pub does-tag : (b : Box) (x : Reply) → x ≡ tag r s b → x ≡ carry-out q b
+  unfolding carry-out
+  does-tag b x p = rw e p
+
+module _ (q : Request) (r s t : ℕ) (e : q ≡ Same r s t) where
+  pub names-same : (y : Bool) → y ≡ (is-register r && is-register s && is-register t) → y ≡ registers-right q
+  unfolding registers-right
+  names-same y p = rw e p
+
+  pub right-same : registers-right q ≡ true → (r < 8) × (s < 8) × (t < 8)
+  unfolding registers-right
+  right-same p = let t1 : (is-register r && is-register s && is-register t) ≡ true = rw e at p in three r s t t1
+
+  pub does-same : (b : Box) (x : Reply) → x ≡ same r s t b → x ≡ carry-out q b
+  unfolding carry-out
+  does-same b x p = rw e p
+
+-- ---- the order of refusals. y and z are the tests as they were made
+
+module _ (q : Request) (b : Box) (y : Bool) (e : y ≡ sound b) where
+  pub refuse-unsound : y ≡ false → reply b 9 ≡ request q b
+  unfolding request
+  refuse-unsound f = simp (← e, f)
+
+  pub refuse-register : (z : Bool) → y ≡ true → z ≡ registers-right q → z ≡ false → reply b 1 ≡ request q b
+  unfolding request
+  refuse-register z f g h = simp (← e, f, ← g, h)
+
+  pub refuse-held : (z : Bool) → y ≡ true → z ≡ registers-right q → z ≡ true → b .state .held ≡ true → reply b 6 ≡ request q b
+  unfolding request
+  refuse-held z f g h i = simp (← e, f, ← g, h, i)
+
+  pub carried : (z : Bool) (x : Reply) → y ≡ true → z ≡ registers-right q → z ≡ true → b .state .held ≡ false → x ≡ carry-out q b → x ≡ request q b
+  unfolding request
+  carried z x f g h i d = d ∙ simp (← e, f, ← g, h, i)

@@ -1,0 +1,103 @@
+-- Laws of the tests that every call makes first: the sizes, the lengths of the lent columns and the phase. Each follows from
+-- the definition by the tests it is made of. Assumes nothing.
+use Prim.Native.Nat.{ℕ, _≤_, _<_}
+use native.Mathlib.Omega.{arith}
+use mathlib.Core.Bool.{Bool, true, false, _&&_}
+use mathlib.Core.List.{List}
+use mathlib.Core.Path.{_≡_, refl}
+use lib.Dec.{leb, ltb, eqb}
+use lib.ListN.{length}
+use borrow.Author.Tests.{eq-eqb, ne-eqb, leb-true, eqb-true}
+use Rattle.memory.specs.declared.state.State.{State}
+use Rattle.memory.specs.Limits.{in-range}
+use Rattle.memory.specs.Box.{Box, lengths-are, right-sizes, sound}
+use Rattle.memory.specs.Boxed.{boxed}
+
+-- ---- conjunctions
+
+pub and-left : (a b : Bool) → (a && b) ≡ true → a ≡ true
+and-left true b p = refl
+and-left false b p = p
+
+pub and-right : (a b : Bool) → (a && b) ≡ true → b ≡ true
+and-right true b p = p
+and-right false true p = refl
+and-right false false p = p
+
+split4 : (a b c d : Bool) → (a && b && c && d) ≡ true → (a ≡ true) × (b ≡ true) × (c ≡ true) × (d ≡ true)
+split4 a b c d p =
+    let p3 = and-left (a && b && c) d p in
+    let p2 = and-left (a && b) c p3 in
+    (and-left a b p2, and-right a b p2, and-right (a && b) c p3, and-right (a && b && c) d p)
+
+split7 : (a b c d e f g : Bool) → (a && b && c && d && e && f && g) ≡ true → (a ≡ true) × (b ≡ true) × (c ≡ true) × (d ≡ true) × (e ≡ true) × (f ≡ true) × (g ≡ true)
+split7 a b c d e f g p =
+    let p6 = and-left (a && b && c && d && e && f) g p in
+    let p5 = and-left (a && b && c && d && e) f p6 in
+    let q = split4 a b c d (and-left (a && b && c && d) e p5) in
+    (q .0, q .1, q .2, q .3, and-right (a && b && c && d) e p5, and-right (a && b && c && d && e) f p6, and-right (a && b && c && d && e && f) g p)
+
+-- ---- lengths
+
+-- six lengths are right: what is left is the seventh
+pub last-length : (m h : ℕ) (ws : List ℕ) (fs : List Bool) (ads ss ls : List ℕ) (ms ds : List Bool) (s : State) → length ws ≡ m → length fs ≡ m → length ads ≡ h → length ss ≡ h → length ls ≡ h → length ms ≡ h → eqb (length ds) h ≡ lengths-are m h (boxed ws fs ads ss ls ms ds s)
+unfolding lengths-are
+last-length m h ws fs ads ss ls ms ds s p1 p2 p3 p4 p5 p6 =
+    simp (eq-eqb (length ws) m p1, eq-eqb (length fs) m p2, eq-eqb (length ads) h p3, eq-eqb (length ss) h p4, eq-eqb (length ls) h p5, eq-eqb (length ms) h p6)
+
+-- the columns have the lengths m and h
+pub record Lengths (m h : ℕ) (b : Box) : Type 0 where
+  pub words : length (b .words) ≡ m
+  pub flags : length (b .flags) ≡ m
+  pub addresses : length (b .addresses) ≡ h
+  pub sizes : length (b .sizes) ≡ h
+  pub links : length (b .links) ≡ h
+  pub marks : length (b .marks) ≡ h
+  pub deeps : length (b .deeps) ≡ h
+
+pub lengths-hold : (m h : ℕ) (b : Box) → lengths-are m h b ≡ true → Lengths m h b
+unfolding lengths-are
+lengths-hold m h b p =
+    let q = split7 (eqb (length (b .words)) m) (eqb (length (b .flags)) m) (eqb (length (b .addresses)) h) (eqb (length (b .sizes)) h) (eqb (length (b .links)) h) (eqb (length (b .marks)) h) (eqb (length (b .deeps)) h) p in
+    record { words = eqb-true _ _ (q .0); flags = eqb-true _ _ (q .1); addresses = eqb-true _ _ (q .2); sizes = eqb-true _ _ (q .3); links = eqb-true _ _ (q .4); marks = eqb-true _ _ (q .5); deeps = eqb-true _ _ (q .6) }
+
+-- ---- sizes
+
+-- what later proofs use of the limits: a size fits 16 bits, and so does a handle
+pub record Ranges (m h : ℕ) : Type 0 where
+  pub words : m < 65536
+  pub entries : h ≤ 4096
+  pub some-words : 0 < m
+  pub some-entries : 1 < h
+
+pub range-holds : (m h : ℕ) → in-range m h ≡ true → Ranges m h
+unfolding in-range
+range-holds m h p =
+    let q = split4 (leb 16 m) (leb m 8192) (leb 2 h) (leb h 1024) p in
+    let a : 16 ≤ m = leb-true _ _ (q .0) in
+    let b : m ≤ 8192 = leb-true _ _ (q .1) in
+    let c : 2 ≤ h = leb-true _ _ (q .2) in
+    let d : h ≤ 1024 = leb-true _ _ (q .3) in
+    record { words = omega arith; entries = omega arith; some-words = omega arith; some-entries = omega arith }
+
+pub sizes-ranges : (m h : ℕ) (b : Box) → right-sizes m h b ≡ true → Ranges m h
+unfolding right-sizes
+sizes-ranges m h b p = range-holds m h (and-left _ _ p)
+
+pub sizes-lengths : (m h : ℕ) (b : Box) → right-sizes m h b ≡ true → Lengths m h b
+unfolding right-sizes
+sizes-lengths m h b p = lengths-hold m h b (and-right (in-range m h) _ p)
+
+-- ---- a sound box
+
+pub sound-ranges : (b : Box) → sound b ≡ true → Ranges (b .state .m) (b .state .h)
+unfolding sound
+sound-ranges b p = sizes-ranges _ _ b (and-left _ _ p)
+
+pub sound-lengths : (b : Box) → sound b ≡ true → Lengths (b .state .m) (b .state .h) b
+unfolding sound
+sound-lengths b p = sizes-lengths _ _ b (and-left _ _ p)
+
+pub sound-phase : (b : Box) → sound b ≡ true → b .state .phase ≤ 8
+unfolding sound
+sound-phase b p = leb-true _ _ (and-right (right-sizes (b .state .m) (b .state .h) b) _ p)

@@ -1,0 +1,113 @@
+-- Laws of a new tuple: whether it finds room and can be made, and what each column and the state become, over any parts.
+-- By computing the definitions under the facts of each case. Assumes nothing.
+use Prim.Native.Nat.{ℕ, _+_, _*_, _-_, _<_, _≤_}
+use native.Mathlib.Omega.{arith}
+use mathlib.Core.Bool.{Bool, true, false, not, cond, _||_}
+use mathlib.Core.List.{List}
+use mathlib.Core.Path.{_≡_, refl, sym, _∙_, ap}
+use lib.Dec.{eqb, leb, ltb}
+use lib.ListN.{getD, set}
+use borrow.Author.Tests.{eq-eqb, ne-eqb, lt-ltb, le-ltb, le-leb, lt-leb, ltb-true, ltb-false, leb-true, leb-false}
+use Rattle.memory.specs.declared.state.State.{State}
+use Rattle.memory.specs.State.{with-registers, with-flags, with-top, with-free, with-live}
+use Rattle.memory.specs.Box.{Box, reply, is-entry}
+use Rattle.memory.specs.Boxed.{boxed}
+use Rattle.memory.specs.Request.{no-room, collecting, can-make, new-entry, take-room, new-tuple, hold, getm}
+use Rattle.memory.proofs.Compare.{same-test, below-difference}
+use Rattle.memory.proofs.Entries.{entry, entry-nil, entry-far}
+use Rattle.memory.proofs.Sizes.{and-left, and-right}
+
+-- ---- tests by subtraction
+
+over-test : (m t n : ℕ) → t ≤ m → leb (m - t) n ≡ ltb m (t + n + 1)
+over-test m t n l =
+    same-test (leb (m - t) n) (ltb m (t + n + 1)) (λ e. lt-ltb m (t + n + 1) (omega (arith, leb-true (m - t) n e)))
+    (λ e. le-ltb m (t + n + 1) (omega (arith, leb-false (m - t) n e)))
+
+or-right : (a b : Bool) → (a || b) ≡ false → b ≡ false
+or-right true true p = p
+or-right true false p = refl
+or-right false b p = p
+
+-- ---- whether there is room
+
+module _ (n : ℕ) (b : Box) where
+  pub no-handle : b .state .free ≡ 0 → true ≡ no-room n b
+  unfolding no-room
+  no-handle z = simp (eq-eqb (b .state .free) 0 z)
+
+  pub top-over : (b .state .free ≡ 0 → ⊥) → b .state .m < b .state .top → true ≡ no-room n b
+  unfolding no-room
+  top-over f o = simp (ne-eqb (b .state .free) 0 f, lt-ltb (b .state .m) (b .state .top + n + 1) (omega arith))
+
+  pub by-rest : (b .state .free ≡ 0 → ⊥) → b .state .top ≤ b .state .m → leb (b .state .m - b .state .top) n ≡ no-room n b
+  unfolding no-room
+  by-rest f o = simp (ne-eqb (b .state .free) 0 f, over-test (b .state .m) (b .state .top) n o)
+
+  pub room-top : no-room n b ≡ false → b .state .top + n + 1 ≤ b .state .m
+  unfolding no-room
+  room-top t = ltb-false (b .state .m) (b .state .top + n + 1) (or-right (eqb (b .state .free) 0) _ t)
+
+-- ---- whether it can be made
+
+module _ (n : ℕ) (b : Box) where
+  pub make-nil : b .state .free ≡ 0 → false ≡ can-make n b
+  unfolding can-make
+  make-nil z = simp (entry-nil (b .state .free) b z)
+
+  pub make-far : b .state .h ≤ b .state .free → false ≡ can-make n b
+  unfolding can-make
+  make-far f = simp (entry-far (b .state .free) b f)
+
+  pub make-rest : (b .state .free ≡ 0 → ⊥) → b .state .free < b .state .h → b .state .phase ≡ 0 → true ≡ can-make n b
+  unfolding can-make collecting
+  make-rest f q z = simp (entry (b .state .free) b (omega arith) q, eq-eqb (b .state .phase) 0 z)
+
+  pub make-over : (b .state .free ≡ 0 → ⊥) → b .state .free < b .state .h → (b .state .phase ≡ 0 → ⊥) → b .state .m < b .state .live → false ≡ can-make n b
+  unfolding can-make collecting
+  make-over f q z o = simp (entry (b .state .free) b (omega arith) q, ne-eqb (b .state .phase) 0 z, lt-leb (b .state .live + n + 1) (b .state .m) (omega arith))
+
+  pub make-by-rest : (b .state .free ≡ 0 → ⊥) → b .state .free < b .state .h → (b .state .phase ≡ 0 → ⊥) → b .state .live ≤ b .state .m → ltb n (b .state .m - b .state .live) ≡ can-make n b
+  unfolding can-make collecting
+  make-by-rest f q z o = simp (entry (b .state .free) b (omega arith) q, ne-eqb (b .state .phase) 0 z, below-difference (b .state .m) (b .state .live) n o)
+
+  pub make-entry : can-make n b ≡ true → b .state .free < b .state .h
+  unfolding can-make is-entry
+  make-entry t = ltb-true (b .state .free) (b .state .h) (and-right (leb 1 (b .state .free)) _ (and-left (is-entry (b .state .free) b) _ t))
+
+  pub make-live : can-make n b ≡ true → (b .state .phase ≡ 0 → ⊥) → b .state .live + n + 1 ≤ b .state .m
+  unfolding can-make collecting
+  make-live t z = leb-true _ _ (simp (ne-eqb (b .state .phase) 0 z) at (and-right (is-entry (b .state .free) b) _ t))
+
+-- ---- what it leaves
+
+-- in Rest live is as it was
+pub rest-live : (p l k : ℕ) → p ≡ 0 → l ≡ cond (not (eqb p 0)) k l
+rest-live p l k e = simp (eq-eqb p 0 e)
+
+-- outside Rest it grows
+pub cycle-live : (p l k : ℕ) → (p ≡ 0 → ⊥) → k ≡ cond (not (eqb p 0)) k l
+cycle-live p l k e = simp (ne-eqb p 0 e)
+
+pub made : (ws : List ℕ) (fs : List Bool) (ads ss ls : List ℕ) (ms ds : List Bool) (r n tag control target : ℕ) (s s1 s2 : State) → control ≡ s .free * 65536 + tag → target ≡ s .free * 65536 + 0 → s1 ≡ with-free (getD ls (s .free) 0) (with-top (s .top + n + 1) (with-live (cond (not (eqb (s .phase) 0)) (s .live + n + 1) (s .live)) s)) → s2 ≡ with-registers (set (s1 .registers) r target) (with-flags (set (s1 .flags) r true) s1) → boxed (set ws (s .top) control) (set fs (s .top) false) (set ads (s .free) (s .top)) (set ss (s .free) n) ls (set ms (s .free) (not (eqb (s .phase) 0))) (set ds (s .free) false) s2 ≡ new-tuple r n tag (boxed ws fs ads ss ls ms ds s)
+unfolding collecting new-entry take-room new-tuple
+made ws fs ads ss ls ms ds r n tag control target s s1 s2 p1 p2 p3 p4 = rw (p4, p3, p2, p1)
+
+-- ---- GETM
+
+module _ (r n tag : ℕ) (b : Box) where
+  pub getm-large : b .state .m ≤ n → reply b 5 ≡ getm r n tag b
+  unfolding getm
+  getm-large o = simp (lt-leb (n + 1) (b .state .m) (omega arith))
+
+  pub getm-held : (x : Box) (t : Bool) → n < b .state .m → t ≡ no-room n b → t ≡ true → x ≡ hold r n tag b → reply x 7 ≡ getm r n tag b
+  unfolding getm
+  getm-held x t o e y d = ap (λ (z : Box). reply z 7) d ∙ simp (le-leb (n + 1) (b .state .m) (omega arith), ← e, y)
+
+  pub getm-made : (x : Box) (t u : Bool) → n < b .state .m → t ≡ no-room n b → t ≡ false → u ≡ can-make n b → u ≡ true → x ≡ new-tuple r n tag b → reply x 0 ≡ getm r n tag b
+  unfolding getm
+  getm-made x t u o e y f z d = ap (λ (z : Box). reply z 0) d ∙ simp (le-leb (n + 1) (b .state .m) (omega arith), ← e, y, ← f, z)
+
+  pub getm-refused : (t u : Bool) → n < b .state .m → t ≡ no-room n b → t ≡ false → u ≡ can-make n b → u ≡ false → reply b 9 ≡ getm r n tag b
+  unfolding getm
+  getm-refused t u o e y f z = simp (le-leb (n + 1) (b .state .m) (omega arith), ← e, y, ← f, z)

@@ -1,0 +1,40 @@
+-- `State::mark_add` equals the definition `mark-add`, by its two cases. Assumes nothing.
+use Rattle.memory.proofs.Marking.{mark-add-done, mark-add-refused}
+use mathlib.Core.List.{[]}
+use borrow.Author.Needs.{needs}
+use mathlib.Core.Path.{sym, _∙_}
+use Rattle.memory.proofs.state.State.mark_add.Statement.{statement}
+use Rattle.memory.proofs.state.State.mark_add.Tie as tie
+
+can-shade-requires : tie.Need-can-shade-requires
+can-shade-requires c κs = search needs
+
+shade-requires : tie.Need-shade-requires
+shade-requires c κs = (search needs, search needs, search needs, search needs, search needs, sym (c .before .before .before .can-shade .ensures [] [] [] [] []) ∙ c .before .before .if1 .taken)
+
+same-length : tie.Need-same-length
+same-length c = search needs
+
+same-length-2 : tie.Need-same-length-2
+same-length-2 c = search needs
+
+returns : tie.Need-returns
+returns c ws fs ads = mark-add-done _ _ (sym (c .before .before .before .before .before .before .before .before .can-shade .ensures _ _ _ _ _) ∙ c .before .before .before .before .before .before .before .if1 .taken) (c .before .before .before .before .shade .ensures ws fs ads)
+
+same-length-3 : tie.Need-same-length-3
+same-length-3 c = search needs
+
+returns-2 : tie.Need-returns-2
+returns-2 c ws fs ads = mark-add-refused _ (sym (c .before .can-shade .ensures _ _ _ _ _) ∙ c .if1 .left)
+
+pub mark-add-spec : {M : Type 1} → statement M
+mark-add-spec =
+    tie.close
+    (tie.spec
+    can-shade-requires
+    shade-requires
+    same-length
+    same-length-2
+    returns
+    same-length-3
+    returns-2)

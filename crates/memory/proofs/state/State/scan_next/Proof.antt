@@ -1,0 +1,23 @@
+-- `State::scan_next` equals the definition `scan-next`, by its two cases. Assumes nothing.
+use Rattle.memory.proofs.Marking.{scan-next-done, scan-next-refused}
+use Rattle.memory.proofs.Entries.{entry-small}
+use mathlib.Core.List.{[]}
+use borrow.Author.Needs.{needs}
+use mathlib.Core.Path.{sym, _∙_}
+use Rattle.memory.proofs.state.State.scan_next.Statement.{statement}
+use Rattle.memory.proofs.state.State.scan_next.Tie as tie
+
+is-entry-requires : tie.Need-is-entry-requires
+is-entry-requires c κs = search needs
+
+scan-requires : tie.Need-scan-requires
+scan-requires c κs = (search needs, search needs, search needs, entry-small _ _ (sym (c .before .is-entry .ensures [] [] [] [] [] [] []) ∙ c .if1 .taken))
+
+returns : tie.Need-returns
+returns c ws fs ms ds = scan-next-done _ _ (sym (c .before .before .is-entry .ensures _ _ _ _ _ _ _) ∙ c .before .if1 .taken) (c .scan .ensures ws fs ms ds)
+
+returns-2 : tie.Need-returns-2
+returns-2 c ws fs ms ds = scan-next-refused _ (sym (c .before .is-entry .ensures _ _ _ _ _ _ _) ∙ c .if1 .left)
+
+pub scan-next-spec : {M : Type 1} → statement M
+scan-next-spec = tie.close (tie.spec is-entry-requires scan-requires returns returns-2)

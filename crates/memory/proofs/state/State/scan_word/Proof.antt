@@ -1,0 +1,47 @@
+-- `State::scan_word` equals the definition `scan-word`, by its two cases. Assumes nothing.
+use borrow.Author.Needs.{needs}
+use Rattle.memory.proofs.Marking.{scan-word-pointer, scan-word-passed}
+use mathlib.Core.Path.{sym, _∙_}
+use Rattle.memory.proofs.state.State.scan_word.Statement.{statement}
+use Rattle.memory.proofs.state.State.scan_word.Tie as tie
+
+add-at : tie.Need-add-at
+add-at c = search needs
+
+cast-at : tie.Need-cast-at
+cast-at c = search needs
+
+mul-bits : tie.Need-mul-bits
+mul-bits c = search needs
+
+shared-slice-read-bits : tie.Need-shared-slice-read-bits
+shared-slice-read-bits c = search needs
+
+shared-slice-read-flag : tie.Need-shared-slice-read-flag
+shared-slice-read-flag c = search needs
+
+add-self : tie.Need-add-self
+add-self c = search needs
+
+names-tuple-requires : tie.Need-names-tuple-requires
+names-tuple-requires c κs = search needs
+
+returns : tie.Need-returns
+returns c ads ss ls ms ds = scan-word-pointer _ (sym (c .before .names-tuple .ensures) ∙ c .if1 .taken)
+
+returns-2 : tie.Need-returns-2
+returns-2 c ads ss ls ms ds = scan-word-passed _ (sym (c .before .names-tuple .ensures) ∙ c .if1 .left)
+
+pub scan-word-spec : {M : Type 1} → statement M
+scan-word-spec =
+    tie.close
+    (tie.spec
+    add-at
+    cast-at
+    mul-bits
+    shared-slice-read-bits
+    shared-slice-read-flag
+    add-self
+    names-tuple-requires
+    returns
+    returns-2)

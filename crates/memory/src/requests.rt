@@ -1,0 +1,137 @@
+// The public call for requests: the order of refusals, and each kind's own method.
+use crate::kinds::Request;
+use crate::sound::sound;
+use crate::state::Answered;
+use crate::state::State;
+ghost use mathlib.Core.Bool.{true, _&&_};
+ghost use mathlib.Core.Path.{_≡_};
+ghost use Rattle.memory.specs.Box.{reply, sound};
+ghost use Rattle.memory.specs.Boxed.{boxed};
+ghost use Rattle.memory.specs.Request.{is-register, registers-right, carry-out, request};
+
+// Whether two numbers are registers.
+fn both(r: u16, s: u16) -> bool
+    ensures { λ t. ⌜ t ≡ (is-register r && is-register s) ⌝ }
+{
+    if r < 8 {
+        return s < 8;
+    }
+    false
+}
+
+// Whether three numbers are registers.
+fn all(r: u16, s: u16, t: u16) -> bool
+    ensures { λ u. ⌜ u ≡ (is-register r && is-register s && is-register t) ⌝ }
+{
+    if both(r, s) {
+        return t < 8;
+    }
+    false
+}
+
+// Whether every register that a request names is 0 to 7.
+fn registers_right(q: Request) -> bool
+    ensures { λ r. ⌜ r ≡ registers-right q ⌝ }
+{
+    match q {
+        Request::Setd { r, v: _ } => r < 8,
+        Request::Nil { r } => r < 8,
+        Request::Move { r, s } => both(r, s),
+        Request::Advance { r, n: _ } => r < 8,
+        Request::Getm { r, n: _, tag: _ } => r < 8,
+        Request::Load { r, s, k: _ } => both(r, s),
+        Request::Store { r, s, k: _ } => both(r, s),
+        Request::Size { r, s } => both(r, s),
+        Request::Tag { r, s } => both(r, s),
+        Request::Same { r, s, t } => all(r, s, t),
+    }
+}
+
+impl State {
+    // Carries out a request in a sound box, its registers 0 to 7 and nothing held. Answers as its kind does.
+    fn carry_out(
+        self,
+        q: Request,
+        words: &mut [u32],
+        flags: &mut [bool],
+        addresses: &mut [u32],
+        sizes: &mut [u32],
+        links: &mut [u32],
+        marks: &mut [bool],
+        deeps: &mut [bool],
+    ) -> Answered
+        requires { ⌜ (sound (boxed (now words) (now flags) (now addresses) (now sizes) (now links) (now marks) (now deeps) self) ≡ true) × (registers-right q ≡ true) ⌝ }
+        ensures { λ a. ⌜ reply (boxed (now (words .exit)) (now (flags .exit)) (now (addresses .exit)) (now (sizes .exit)) (now (links .exit)) (now (marks .exit)) (now (deeps .exit)) (a .state)) (a .answer) ≡ carry-out q (boxed (now (words .entry)) (now (flags .entry)) (now (addresses .entry)) (now (sizes .entry)) (now (links .entry)) (now (marks .entry)) (now (deeps .entry)) self) ⌝ }
+    {
+        match q {
+            Request::Setd { r, v } => self.set_data(r, v),
+            Request::Nil { r } => self.set_nil(r),
+            Request::Move { r, s } => self.move_register(r, s),
+            Request::Advance { r, n } => self.advance(r, n),
+            Request::Getm { r, n, tag } => self.getm(
+                r,
+                n,
+                tag,
+                words,
+                flags,
+                addresses,
+                sizes,
+                links,
+                marks,
+                deeps,
+            ),
+            Request::Load { r, s, k } => self.load(r, s, k, words, flags, addresses, sizes),
+            Request::Store { r, s, k } => self.store(
+                r,
+                s,
+                k,
+                words,
+                flags,
+                addresses,
+                sizes,
+                links,
+                marks,
+                deeps,
+            ),
+            Request::Size { r, s } => self.size(r, s, sizes),
+            Request::Tag { r, s } => self.tag(r, s, words, flags, addresses),
+            Request::Same { r, s, t } => self.same(r, s, t),
+        }
+    }
+}
+
+// One request. Answers 9 where the box is not sound, 1 for a register above 7, 6 while a request is held, and otherwise as
+// its kind does; every refusal leaves all as it was found.
+pub fn request(
+    q: Request,
+    s: State,
+    words: &mut [u32],
+    flags: &mut [bool],
+    addresses: &mut [u32],
+    sizes: &mut [u32],
+    links: &mut [u32],
+    marks: &mut [bool],
+    deeps: &mut [bool],
+) -> Answered
+    ensures { λ a. ⌜ reply (boxed (now (words .exit)) (now (flags .exit)) (now (addresses .exit)) (now (sizes .exit)) (now (links .exit)) (now (marks .exit)) (now (deeps .exit)) (a .state)) (a .answer) ≡ request q (boxed (now (words .entry)) (now (flags .entry)) (now (addresses .entry)) (now (sizes .entry)) (now (links .entry)) (now (marks .entry)) (now (deeps .entry)) s) ⌝ }
+{
+    if sound(s, words, flags, addresses, sizes, links, marks, deeps) {
+        if registers_right(q) {
+            if s.held {
+                return Answered {
+                    state: s,
+                    answer: 6,
+                };
+            }
+            return s.carry_out(q, words, flags, addresses, sizes, links, marks, deeps);
+        }
+        return Answered {
+            state: s,
+            answer: 1,
+        };
+    }
+    Answered {
+        state: s,
+        answer: 9,
+    }
+}
