@@ -16,7 +16,7 @@ pub enum Asked {
 // The largest number that fits 16 bits.
 const LAST: u32 = 65535;
 
-// SETD, whose v may be any number.
+// SETD with register a and any number b; Unknown where a is above 65,535.
 fn setd(a: u32, b: u32) -> Asked
     ensures { λ r. ⌜ r ≡ asked-as (if-right (half a) (Setd a b)) ⌝ }
 {
@@ -26,7 +26,7 @@ fn setd(a: u32, b: u32) -> Asked
     Asked::Known(Request::Setd { r: a as u16, v: b })
 }
 
-// NIL.
+// NIL with register a; Unknown where it is above 65,535.
 fn nil(a: u32) -> Asked
     ensures { λ r. ⌜ r ≡ asked-as (if-right (half a) (Nil a)) ⌝ }
 {
@@ -36,7 +36,7 @@ fn nil(a: u32) -> Asked
     Asked::Known(Request::Nil { r: a as u16 })
 }
 
-// MOVE.
+// MOVE with a and b; Unknown where one of them is above 65,535.
 fn move_of(a: u32, b: u32) -> Asked
     ensures { λ r. ⌜ r ≡ asked-as (if-right (half a && half b) (Move a b)) ⌝ }
 {
@@ -52,7 +52,7 @@ fn move_of(a: u32, b: u32) -> Asked
     })
 }
 
-// ADVANCE.
+// ADVANCE with a and b; Unknown where one of them is above 65,535.
 fn advance(a: u32, b: u32) -> Asked
     ensures { λ r. ⌜ r ≡ asked-as (if-right (half a && half b) (Advance a b)) ⌝ }
 {
@@ -68,7 +68,7 @@ fn advance(a: u32, b: u32) -> Asked
     })
 }
 
-// GETM.
+// GETM with a, b and c; Unknown where one of them is above 65,535.
 fn getm(a: u32, b: u32, c: u32) -> Asked
     ensures { λ r. ⌜ r ≡ asked-as (if-right (half a && half b && half c) (Getm a b c)) ⌝ }
 {
@@ -88,7 +88,7 @@ fn getm(a: u32, b: u32, c: u32) -> Asked
     })
 }
 
-// LOAD.
+// LOAD with a, b and c; Unknown where one of them is above 65,535.
 fn load(a: u32, b: u32, c: u32) -> Asked
     ensures { λ r. ⌜ r ≡ asked-as (if-right (half a && half b && half c) (Load a b c)) ⌝ }
 {
@@ -108,7 +108,7 @@ fn load(a: u32, b: u32, c: u32) -> Asked
     })
 }
 
-// STORE.
+// STORE with a, b and c; Unknown where one of them is above 65,535.
 fn store(a: u32, b: u32, c: u32) -> Asked
     ensures { λ r. ⌜ r ≡ asked-as (if-right (half a && half b && half c) (Store a b c)) ⌝ }
 {
@@ -128,7 +128,7 @@ fn store(a: u32, b: u32, c: u32) -> Asked
     })
 }
 
-// SIZE.
+// SIZE with a and b; Unknown where one of them is above 65,535.
 fn size(a: u32, b: u32) -> Asked
     ensures { λ r. ⌜ r ≡ asked-as (if-right (half a && half b) (Size a b)) ⌝ }
 {
@@ -144,7 +144,7 @@ fn size(a: u32, b: u32) -> Asked
     })
 }
 
-// TAG.
+// TAG with a and b; Unknown where one of them is above 65,535.
 fn tag(a: u32, b: u32) -> Asked
     ensures { λ r. ⌜ r ≡ asked-as (if-right (half a && half b) (Tag a b)) ⌝ }
 {
@@ -160,7 +160,7 @@ fn tag(a: u32, b: u32) -> Asked
     })
 }
 
-// SAME.
+// SAME with a, b and c; Unknown where one of them is above 65,535.
 fn same(a: u32, b: u32, c: u32) -> Asked
     ensures { λ r. ⌜ r ≡ asked-as (if-right (half a && half b && half c) (Same a b c)) ⌝ }
 {
@@ -181,6 +181,7 @@ fn same(a: u32, b: u32, c: u32) -> Asked
 }
 
 // The request of a kind's number, with its fields in document 01's order; fields that a kind does not have are passed over.
+// Unknown where the kind is not 1 to 10, or a 16-bit field is above 65,535.
 pub fn request_of(kind: u32, a: u32, b: u32, c: u32) -> Asked
     ensures { λ r. ⌜ r ≡ asked-as (request-of kind a b c) ⌝ }
 {

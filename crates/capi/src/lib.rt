@@ -5,7 +5,7 @@ mod wire;
 
 use asked::Asked;
 ghost use mathlib.Core.Path.{_≡_};
-ghost use Rattle.capi.specs.Calls.{lent, left, c-open, c-request};
+ghost use Rattle.capi.specs.Calls.{lent, left, c-open, c-request, c-step};
 
 // How many numbers a state has.
 const STATE_LENGTH: usize = 36;
@@ -67,6 +67,31 @@ pub extern "C" fn gloamish_request(
     };
     let s = wire::decode(state);
     let done = memory::request(q, s, words, flags, addresses, sizes, links, marks, deeps);
+    let after = done.state;
+    wire::encode(after, state);
+    done.answer
+}
+
+// One step of the collector. Answers as `memory::step` does; a state of another length than 36 answers 4,294,967,295, and
+// nothing is changed.
+#[no_mangle]
+pub extern "C" fn gloamish_step(
+    state: &mut [u32],
+    words: &mut [u32],
+    flags: &mut [bool],
+    addresses: &mut [u32],
+    sizes: &mut [u32],
+    links: &mut [u32],
+    marks: &mut [bool],
+    deeps: &mut [bool],
+) -> u32
+    ensures { λ r. ⌜ left (now (state .exit)) (now (words .exit)) (now (flags .exit)) (now (addresses .exit)) (now (sizes .exit)) (now (links .exit)) (now (marks .exit)) (now (deeps .exit)) r ≡ c-step (lent (now (state .entry)) (now (words .entry)) (now (flags .entry)) (now (addresses .entry)) (now (sizes .entry)) (now (links .entry)) (now (marks .entry)) (now (deeps .entry))) ⌝ }
+{
+    if state.len() != STATE_LENGTH {
+        return NOT_UNDERSTOOD;
+    }
+    let s = wire::decode(state);
+    let done = memory::step(s, words, flags, addresses, sizes, links, marks, deeps);
     let after = done.state;
     wire::encode(after, state);
     done.answer

@@ -29,3 +29,15 @@ below-sum m base n o =
 
 pub above-sum : (m base n : ℕ) → m < base → false ≡ ltb (base + n) m
 above-sum m base n o = sym (le-ltb (base + n) m (omega arith))
+
+-- one more word reaches to m where the last lies below it
+pub one-more : (n m : ℕ) → leb (n + 1) m ≡ ltb n m
+one-more n m =
+    sym
+    (same-test (ltb n m) (leb (n + 1) m)
+    (λ t. let h : n < m = ltb-true n m t in le-leb (n + 1) m (omega arith))
+    (λ t. let h : m ≤ n = ltb-false n m t in lt-leb (n + 1) m (omega arith)))
+
+-- a test of the code that came out true
+pub reached : {t : Bool} {a b : ℕ} → t ≡ ltb a b → t ≡ true → a < b
+reached {t} {a} {b} e h = ltb-true a b (sym e ∙ h)

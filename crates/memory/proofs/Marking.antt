@@ -39,9 +39,9 @@ module _ (b : Box) where
   unfolding scan-current
   scan-current-refused z e = simp (ne-eqb (b .state .current) 0 z, e)
 
-  pub scan-word-pointer : names-tuple (word-at (b .state .src + b .state .index) b) ≡ true → with-state (with-index (b .state .index + 1) (with-tuple (handle-of (word-at (b .state .src + b .state .index) b)) (with-phase 3 (b .state)))) b ≡ scan-word b
+  pub scan-word-pointer : (h : ℕ) → h ≡ handle-of (word-at (b .state .src + b .state .index) b) → names-tuple (word-at (b .state .src + b .state .index) b) ≡ true → with-state (with-index (b .state .index + 1) (with-tuple h (with-phase 3 (b .state)))) b ≡ scan-word b
   unfolding scan-word
-  scan-word-pointer t = simp t
+  scan-word-pointer h q t = simp (t, q)
 
   pub scan-word-passed : names-tuple (word-at (b .state .src + b .state .index) b) ≡ false → with-state (with-index (b .state .index + 1) (b .state)) b ≡ scan-word b
   unfolding scan-word

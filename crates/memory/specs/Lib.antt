@@ -6,6 +6,7 @@ pub mod Found
 pub mod Place
 pub mod Request
 pub mod Collector
+pub mod Decide
 pub mod Run
 pub mod Open
 pub mod Cases

@@ -2,21 +2,28 @@
 // small step at a time. The lent parts are seven columns, in this order everywhere: words, flags (M each; flag true
 // means pointer), addresses, sizes, links, marks, deeps (H each). What each call does is said in specs/.
 mod access;
+mod cycle;
 mod find;
 mod kinds;
 mod mark;
 mod opening;
 mod place;
 mod registers;
+mod relocate;
 mod requests;
+mod root;
 mod shade;
 mod sound;
 mod state;
+mod steps;
 mod store;
+mod sweep;
 mod tuple;
 mod word;
 
 pub use kinds::Request;
 pub use opening::open;
 pub use requests::request;
+pub use state::Answered;
 pub use state::State;
+pub use steps::step;

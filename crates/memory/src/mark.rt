@@ -60,7 +60,7 @@ impl State {
     }
 
     // Takes the head of the next list to scan. Answers 30, or 9 where that head is no entry.
-    fn scan_next(mut self, addresses: &[u32], sizes: &[u32], links: &[u32]) -> Answered
+    pub fn scan_next(mut self, addresses: &[u32], sizes: &[u32], links: &[u32]) -> Answered
         requires { ⌜ (length (now addresses) ≡ self .h) × (length (now sizes) ≡ self .h) × (length (now links) ≡ self .h) ⌝ }
         ensures { λ r. ⌜ ((ws : List ℕ) (fs ms ds : List Bool) → reply (boxed ws fs (now (addresses .entry)) (now (sizes .entry)) (now (links .entry)) ms ds (r .state)) (r .answer) ≡ scan-next (boxed ws fs (now (addresses .entry)) (now (sizes .entry)) (now (links .entry)) ms ds self)) ⌝ }
     {

@@ -6,11 +6,6 @@ use Rattle.capi.proofs.Whole.{understood, wrong-length}
 use borrow.Author.Needs.{needs}
 use Rattle.capi.proofs.gloamish_open.Statement.{statement}
 use Rattle.capi.proofs.gloamish_open.Tie as tie
-use Rattle.capi.proofs.gloamish_open.Reads as reads
-use Rattle.capi.proofs.gloamish_open.Lts as lts
-use Rattle.capi.proofs.wire.decode.Reads as decode-reads
-use Rattle.capi.proofs.wire.encode.Reads as encode-reads
-use Rattle.memory.proofs.open.Reads as open-reads
 
 returns : tie.Need-returns
 unfolding c-open

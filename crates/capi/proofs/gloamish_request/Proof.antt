@@ -7,12 +7,6 @@ use Rattle.capi.proofs.Whole.{understood, asked-wrong, asked-unknown, a
 use borrow.Author.Needs.{needs}
 use Rattle.capi.proofs.gloamish_request.Statement.{statement}
 use Rattle.capi.proofs.gloamish_request.Tie as tie
-use Rattle.capi.proofs.gloamish_request.Reads as reads
-use Rattle.capi.proofs.gloamish_request.Lts as lts
-use Rattle.capi.proofs.asked.request_of.Reads as request-of-reads
-use Rattle.capi.proofs.wire.decode.Reads as decode-reads
-use Rattle.capi.proofs.wire.encode.Reads as encode-reads
-use Rattle.memory.proofs.request.Reads as request-reads
 
 returns : tie.Need-returns
 unfolding c-request

@@ -4,18 +4,6 @@ use Rattle.capi.specs.Calls.{request-of}
 use Rattle.capi.proofs.Fields.{of-kind, of-none}
 use Rattle.capi.proofs.asked.request_of.Statement.{statement}
 use Rattle.capi.proofs.asked.request_of.Tie as tie
-use Rattle.capi.proofs.asked.request_of.Reads as reads
-use Rattle.capi.proofs.asked.request_of.Lts as lts
-use Rattle.capi.proofs.asked.advance.Reads as advance-reads
-use Rattle.capi.proofs.asked.getm.Reads as getm-reads
-use Rattle.capi.proofs.asked.load.Reads as load-reads
-use Rattle.capi.proofs.asked.move_of.Reads as move-of-reads
-use Rattle.capi.proofs.asked.nil.Reads as nil-reads
-use Rattle.capi.proofs.asked.same.Reads as same-reads
-use Rattle.capi.proofs.asked.setd.Reads as setd-reads
-use Rattle.capi.proofs.asked.size.Reads as size-reads
-use Rattle.capi.proofs.asked.store.Reads as store-reads
-use Rattle.capi.proofs.asked.tag.Reads as tag-reads
 
 setd-requires : tie.Need-setd-requires
 setd-requires c κs = search needs

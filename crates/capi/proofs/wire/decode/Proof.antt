@@ -3,11 +3,6 @@ use Rattle.capi.specs.Wire.{decoded}
 use borrow.Author.Needs.{needs}
 use Rattle.capi.proofs.wire.decode.Statement.{statement}
 use Rattle.capi.proofs.wire.decode.Tie as tie
-use Rattle.capi.proofs.wire.decode.Reads as reads
-use Rattle.capi.proofs.wire.decode.Lts as lts
-use Rattle.capi.proofs.wire.flags.Reads as flags-reads
-use Rattle.capi.proofs.wire.lower_half.Reads as lower-half-reads
-use Rattle.capi.proofs.wire.registers.Reads as registers-reads
 
 registers-requires : tie.Need-registers-requires
 registers-requires c κs = search needs

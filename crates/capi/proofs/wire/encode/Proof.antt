@@ -4,12 +4,6 @@ use Rattle.capi.proofs.Numbers.{encoded-parts}
 use borrow.Author.Needs.{needs}
 use Rattle.capi.proofs.wire.encode.Statement.{statement}
 use Rattle.capi.proofs.wire.encode.Tie as tie
-use Rattle.capi.proofs.wire.encode.Reads as reads
-use Rattle.capi.proofs.wire.encode.Lts as lts
-use Rattle.capi.proofs.wire.put_collector.Reads as put-collector-reads
-use Rattle.capi.proofs.wire.put_flags.Reads as put-flags-reads
-use Rattle.capi.proofs.wire.put_hold.Reads as put-hold-reads
-use Rattle.capi.proofs.wire.put_registers.Reads as put-registers-reads
 
 put-registers-requires : tie.Need-put-registers-requires
 put-registers-requires c κs = search needs

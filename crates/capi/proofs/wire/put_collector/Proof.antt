@@ -5,8 +5,6 @@ use lib.ListN.{length-set}
 use borrow.Author.Needs.{needs}
 use Rattle.capi.proofs.wire.put_collector.Statement.{statement}
 use Rattle.capi.proofs.wire.put_collector.Tie as tie
-use Rattle.capi.proofs.wire.put_collector.Reads as reads
-use Rattle.capi.proofs.wire.put_collector.Lts as lts
 
 slice-write-state : tie.Need-slice-write-state
 slice-write-state c = search needs

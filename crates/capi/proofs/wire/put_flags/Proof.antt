@@ -5,8 +5,6 @@ use Rattle.capi.proofs.Numbers.{as-bit}
 use borrow.Author.Needs.{needs}
 use Rattle.capi.proofs.wire.put_flags.Statement.{statement}
 use Rattle.capi.proofs.wire.put_flags.Tie as tie
-use Rattle.capi.proofs.wire.put_flags.Reads as reads
-use Rattle.capi.proofs.wire.put_flags.Lts as lts
 
 element-copy-out-state : tie.Need-element-copy-out-state
 element-copy-out-state c = search needs

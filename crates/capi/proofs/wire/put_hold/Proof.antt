@@ -5,9 +5,6 @@ use Rattle.capi.proofs.Numbers.{as-bit}
 use borrow.Author.Needs.{needs}
 use Rattle.capi.proofs.wire.put_hold.Statement.{statement}
 use Rattle.capi.proofs.wire.put_hold.Tie as tie
-use Rattle.capi.proofs.wire.put_hold.Reads as reads
-use Rattle.capi.proofs.wire.put_hold.Lts as lts
-use Rattle.capi.proofs.wire.wide.Reads as wide-reads
 
 wide-requires : tie.Need-wide-requires
 wide-requires c κs = search needs

@@ -5,8 +5,6 @@ use lib.ListN.{length-set}
 use borrow.Author.Needs.{needs}
 use Rattle.capi.proofs.wire.put_registers.Statement.{statement}
 use Rattle.capi.proofs.wire.put_registers.Tie as tie
-use Rattle.capi.proofs.wire.put_registers.Reads as reads
-use Rattle.capi.proofs.wire.put_registers.Lts as lts
 
 slice-write-state : tie.Need-slice-write-state
 slice-write-state c = search needs

@@ -11,14 +11,14 @@ add-at c = search needs
 cast-at : tie.Need-cast-at
 cast-at c = search needs
 
-mul-bits : tie.Need-mul-bits
-mul-bits c = search needs
+mul-t9 : tie.Need-mul-t9
+mul-t9 c = search needs
 
-shared-slice-read-bits : tie.Need-shared-slice-read-bits
-shared-slice-read-bits c = search needs
+shared-slice-read-t8 : tie.Need-shared-slice-read-t8
+shared-slice-read-t8 c = search needs
 
-shared-slice-read-flag : tie.Need-shared-slice-read-flag
-shared-slice-read-flag c = search needs
+shared-slice-read-t12 : tie.Need-shared-slice-read-t12
+shared-slice-read-t12 c = search needs
 
 add-self : tie.Need-add-self
 add-self c = search needs
@@ -26,8 +26,11 @@ add-self c = search needs
 names-tuple-requires : tie.Need-names-tuple-requires
 names-tuple-requires c κs = search needs
 
+handle-requires : tie.Need-handle-requires
+handle-requires c κs = search needs
+
 returns : tie.Need-returns
-returns c ads ss ls ms ds = scan-word-pointer _ (sym (c .before .names-tuple .ensures) ∙ c .if1 .taken)
+returns c ads ss ls ms ds = scan-word-pointer _ _ (c .handle .ensures .0) (sym (c .before .before .names-tuple .ensures) ∙ c .before .if1 .taken)
 
 returns-2 : tie.Need-returns-2
 returns-2 c ads ss ls ms ds = scan-word-passed _ (sym (c .before .names-tuple .ensures) ∙ c .if1 .left)
@@ -38,10 +41,11 @@ scan-word-spec =
     (tie.spec
     add-at
     cast-at
-    mul-bits
-    shared-slice-read-bits
-    shared-slice-read-flag
+    mul-t9
+    shared-slice-read-t8
+    shared-slice-read-t12
     add-self
     names-tuple-requires
+    handle-requires
     returns
     returns-2)

@@ -1,0 +1,108 @@
+-- The end of a cycle by its cases, and that what is decided first decides it: refused it answers 9 with the box as found, and
+-- else what was found does not matter. By computing the definitions, case by case. Assumes nothing.
+use Prim.Native.Nat.{ℕ, _+_, _<_, _≤_}
+use mathlib.Core.Bool.{Bool, true, false, not, cond, _&&_, and-true, and-false, false≢true}
+use mathlib.Core.List.{[]}
+use mathlib.Core.Path.{_≡_, refl, sym, _∙_}
+use lib.Dec.{leb, ltb, eqb}
+use borrow.Author.Tests.{lt-ltb, le-ltb, eq-eqb, ltb-true}
+use Rattle.memory.specs.State.{with-held, with-live, with-phase}
+use Rattle.memory.specs.Box.{Box, Reply, reply, with-state, is-entry}
+use Rattle.memory.specs.Request.{is-register, no-room, collecting, can-make, new-tuple}
+use Rattle.memory.specs.Collector.{at-rest, unheld, granted, try-held, settle, end-cycle}
+use Rattle.memory.specs.Boxed.{boxed}
+use Rattle.memory.specs.declared.state.State.{State}
+use Rattle.memory.specs.Decide.{end-refused}
+use Rattle.memory.proofs.Sizes.{and-left, and-right}
+
+-- the three tests of a refused end: held, no room, can be granted
+refuses : (h n g : Bool) (v w y z : Reply) → (h && not n && not g) ≡ true → z ≡ cond h (cond n v (cond g w z)) y
+refuses true true g v w y z e = absurd (false≢true e)
+refuses true false true v w y z e = absurd (false≢true e)
+refuses true false false v w y z e = refl
+refuses false n g v w y z e = absurd (false≢true e)
+
+grants : (h n g : Bool) → (h && not n && not g) ≡ false → h ≡ true → n ≡ false → g ≡ true
+grants true true true e p q = refl
+grants true true false e p q = sym q
+grants true false true e p q = refl
+grants true false false e p q = sym e
+grants false n true e p q = refl
+grants false n false e p q = p
+
+-- a state alone: where the columns bear on nothing
+abbrev pub bare : State → Box
+bare s = boxed [] [] [] [] [] [] [] s
+
+-- the box whose cycle ends
+abbrev resting : Box → Box
+resting b = with-state (with-live 0 (with-phase 0 (b .state))) b
+
+module _ (b : Box) where
+  -- ---- whether it is refused
+  pub ends-unheld : b .state .held ≡ false → false ≡ end-refused b
+  unfolding end-refused
+  ends-unheld t = simp t
+
+  pub ends-roomless : b .state .held ≡ true → no-room (b .state .«hold_size») b ≡ true → false ≡ end-refused b
+  unfolding end-refused
+  ends-roomless t n = simp (t, n)
+
+  pub ends-granted : b .state .held ≡ true → no-room (b .state .«hold_size») b ≡ false → b .state .«hold_register» < 8 → is-entry (b .state .free) b ≡ true → false ≡ end-refused b
+  unfolding end-refused
+  ends-granted t n r e = simp (t, n, lt-ltb (b .state .«hold_register») 8 r, e)
+
+  pub refused-entry : b .state .held ≡ true → no-room (b .state .«hold_size») b ≡ false → b .state .«hold_register» < 8 → is-entry (b .state .free) b ≡ false → true ≡ end-refused b
+  unfolding end-refused
+  refused-entry t n r e = simp (t, n, lt-ltb (b .state .«hold_register») 8 r, e)
+
+  pub refused-register : b .state .held ≡ true → no-room (b .state .«hold_size») b ≡ false → 8 ≤ b .state .«hold_register» → true ≡ end-refused b
+  unfolding end-refused
+  refused-register t n r = simp (t, n, le-ltb (b .state .«hold_register») 8 r)
+
+  -- the columns bear on no refusal
+  pub refused-alone : end-refused (bare (b .state)) ≡ false → end-refused b ≡ false
+  unfolding end-refused no-room is-entry
+  refused-alone e = e
+
+  -- ---- what a request that can be granted has
+  grant-tests : b .state .held ≡ true → no-room (b .state .«hold_size») b ≡ false → end-refused b ≡ false → (is-register (b .state .«hold_register») && is-entry (b .state .free) b) ≡ true
+  unfolding end-refused
+  grant-tests t n e = grants (b .state .held) (no-room (b .state .«hold_size») b) (is-register (b .state .«hold_register») && is-entry (b .state .free) b) e t n
+
+  pub grant-register : b .state .held ≡ true → no-room (b .state .«hold_size») b ≡ false → end-refused b ≡ false → b .state .«hold_register» < 8
+  grant-register t n e = ltb-true (b .state .«hold_register») 8 (and-left (is-register (b .state .«hold_register»)) (is-entry (b .state .free) b) (grant-tests t n e))
+
+  pub grant-entry : b .state .held ≡ true → no-room (b .state .«hold_size») b ≡ false → end-refused b ≡ false → is-entry (b .state .free) b ≡ true
+  grant-entry t n e = and-right (is-register (b .state .«hold_register»)) (is-entry (b .state .free) b) (grant-tests t n e)
+
+  -- ---- the held request is tried again
+  module _ (found : Box) where
+    pub try-dropped : no-room (b .state .«hold_size») b ≡ true → b .state .begun ≡ true → reply (with-state (with-held false (b .state)) b) 8 ≡ try-held found b
+    unfolding try-held unheld
+    try-dropped n t = simp (n, t)
+
+    pub try-waits : no-room (b .state .«hold_size») b ≡ true → b .state .begun ≡ false → reply b 33 ≡ try-held found b
+    unfolding try-held
+    try-waits n t = simp (n, t)
+
+    pub try-granted : (a : Box) → b .state .held ≡ true → b .state .phase ≡ 0 → end-refused (bare (b .state)) ≡ false → no-room (b .state .«hold_size») b ≡ false → a ≡ new-tuple (b .state .«hold_register») (b .state .«hold_size») (b .state .«hold_tag») b → reply (with-state (with-held false (a .state)) a) 32 ≡ try-held found b
+    unfolding try-held granted unheld can-make collecting
+    try-granted a t p e n q = simp (n, grant-entry t n (refused-alone e), lt-ltb (b .state .«hold_register») 8 (grant-register t n (refused-alone e)), eq-eqb (b .state .phase) 0 p, q)
+
+    -- ---- the end
+    pub end-held : (r : Reply) → b .state .held ≡ true → r ≡ try-held found (resting b) → r ≡ end-cycle found b
+    unfolding end-cycle settle at-rest
+    end-held r t q = simp (t, q)
+
+    pub end-free : b .state .held ≡ false → reply (resting b) 31 ≡ end-cycle found b
+    unfolding end-cycle settle at-rest
+    end-free t = simp t
+
+    rest-make : can-make (b .state .«hold_size») (resting b) ≡ is-entry (b .state .free) b
+    unfolding can-make collecting is-entry
+    rest-make = simp (and-true)
+
+    pub end-refuses : end-refused b ≡ true → reply found 9 ≡ end-cycle found b
+    unfolding end-cycle settle at-rest try-held end-refused no-room
+    end-refuses e = simp rest-make (refuses (b .state .held) (no-room (b .state .«hold_size») b) (is-register (b .state .«hold_register») && is-entry (b .state .free) b) _ _ _ (reply found 9) e)

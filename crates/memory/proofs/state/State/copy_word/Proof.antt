@@ -1,0 +1,24 @@
+-- `State::copy_word` equals the definition `copy-word`, by its two cases. Assumes nothing.
+use borrow.Author.Needs.{needs}
+use Rattle.memory.proofs.Moving.{copy-below, copy-above}
+use Rattle.memory.proofs.state.State.copy_word.Statement.{statement}
+use Rattle.memory.proofs.state.State.copy_word.Tie as tie
+
+mul-self : tie.Need-mul-self
+mul-self c = search needs
+
+shared-slice-read-self : tie.Need-shared-slice-read-self
+shared-slice-read-self c = search needs
+
+shared-slice-read-self-2 : tie.Need-shared-slice-read-self-2
+shared-slice-read-self-2 c = search needs
+
+returns : tie.Need-returns
+returns c ads ss ls ms ds = copy-below _ _ (c .if1 .taken)
+
+returns-2 : tie.Need-returns-2
+returns-2 c ads ss ls ms ds = copy-above _ _ (c .if1 .left)
+
+pub copy-word-spec : {M : Type 1} → statement M
+copy-word-spec =
+    tie.close (tie.spec mul-self shared-slice-read-self shared-slice-read-self-2 returns returns-2)
