@@ -2,14 +2,19 @@
 //! that hold a list of calls against the history machine.
 
 pub mod call;
+pub mod capi;
 pub mod checker;
+pub mod compare;
 pub mod fault;
 pub mod history;
+pub mod player;
 pub mod random;
 pub mod unit;
 
 pub use call::{Call, Request};
+pub use capi::Lent;
 pub use checker::Checker;
 pub use fault::Fault;
 pub use history::History;
+pub use player::Player;
 pub use unit::{Hold, Ran, State, Unit, Word};

@@ -579,6 +579,33 @@ fn change_length(rng: &mut Rng, unit: &mut Unit) {
     }
 }
 
+/// An arbitrary state whose columns have lengths of their own, each near M
+/// and H, near one another, or 0.
+pub fn uneven(rng: &mut Rng) -> Unit {
+    fn length<T: Copy>(rng: &mut Rng, column: &mut Vec<T>, stated: u32, like: T) {
+        let length = match rng.below(8) {
+            0 => rng.below(40),
+            1 => 0,
+            2 => stated.wrapping_add(1).min(100),
+            3 => stated.wrapping_sub(1).min(100),
+            _ => return,
+        };
+        column.resize(length as usize, like);
+    }
+    let mut unit = arbitrary(rng);
+    let State { m, h, .. } = unit.state;
+    let word = word(rng, m, h);
+    length(rng, &mut unit.words, m, word.bits);
+    length(rng, &mut unit.pointers, m, word.pointer);
+    let n = number(rng, m, h);
+    length(rng, &mut unit.addresses, h, n);
+    length(rng, &mut unit.sizes, h, n);
+    length(rng, &mut unit.links, h, n);
+    length(rng, &mut unit.marks, h, word.pointer);
+    length(rng, &mut unit.deeps, h, !word.pointer);
+    unit
+}
+
 /// A grown box with one or two fields damaged.
 pub fn damaged(rng: &mut Rng, grower: &mut Grower) -> Unit {
     let mut unit = grower.grow(rng).clone();
