@@ -1,6 +1,7 @@
 -- The invariant of every grown box: an opening has it (`invariant-open`), a step and a request keep it (`invariant-step`,
--- `invariant-request`), and with it no call answers 9 (`never-nine-step`, `never-nine-request`) and the words from top on are
--- data 0 (`words-above-top`). The steps left fall with each step that ends no cycle (`left-falls`), so a cycle that no request
+-- `invariant-request`), and with it no call answers 9 (`never-nine`) and the words from top on are
+-- data 0 (`words-above-top`). The steps left fall with each step that ends no cycle (`left-falls`) and are at most
+-- 8 top + 2 (`left-most`), so a cycle that no request
 -- comes between ends within 8 top + 2 steps (`cycle-bound`). Each by the view of the call, whose cases meet their lemmas.
 -- Assumes nothing.
 use Prim.Native.Nat.{ℕ, zero, suc, _+_, _*_, _≤_, _<_}
@@ -174,6 +175,10 @@ invariant-request q b g w v = go w (asked q b)
     go w (Asked.gives-nil-tag {r} f h l u n x e) = done e g (register-takes-data b g v r 0 l)
     go w (Asked.compares {r} {s} {t} f h l u y e) = done e g (register-takes-data b g v r (cond (same-word (register s b) (register t b)) 1 0) l)
 
+-- neither a step nor any request
+pub never-nine : (b : Box) (g : Ghosts) → Inv b g → (step b .answer ≢ 9) × ((q : Request) → request q b .answer ≢ 9)
+never-nine b g v = (never-nine-step b g v, λ q. never-nine-request q b g v)
+
 -- ---- the words above top
 
 pub words-above-top : (b : Box) (g : Ghosts) → Inv b g → (a : ℕ) → b .state .top ≤ a → word-at a b ≡ data-word 0
@@ -183,6 +188,9 @@ words-above-top b g v = v .zero-words .above-top
 
 pub left-falls : (b : Box) (g g′ : Ghosts) → Inv b g → Inv (step b .box) g′ → step b .answer ≡ 30 → left (step b .box) g′ < left b g
 left-falls b g g′ v w a = step-left b g v a g′ w
+
+pub left-most : (b : Box) (g : Ghosts) → Inv b g → left b g ≤ 8 * b .state .top + 2
+left-most = left-bound
 
 -- the first n single steps of b all answer 30
 abbrev pub GoesOn : ℕ → Box → Type 0
