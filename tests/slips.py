@@ -196,6 +196,18 @@ class Copy:
                 fail(f"this text must stand once in specs/{name}, and stands there {text.count(old)} times: {old}")
             write(os.path.join(specs, name), text.replace(old, new))
 
+    def refused_cases(self):
+        """The bench cases that don't hold: `every-case` gives way to one lemma for each case."""
+        path = os.path.join(self.memory, "specs", "Cases.antt")
+        text = read(path)
+        opens = re.search(r"^pub every-case .*\n(unfolding .*\n)", text, re.M)
+        parts = [text[: opens.start()], "abbrev case-holds : ℕ → List Case → Bool\n", "case-holds n [] = true\n"]
+        parts += ["case-holds zero (c ∷ cs) = holds c\n", "case-holds (suc n) (c ∷ cs) = case-holds n cs\n"]
+        for at in range(12):
+            parts.append(f"\nP{at + 1} : case-holds {at} table ≡ true\n{opens.group(1)}P{at + 1} = refl\n")
+        write(path, "".join(parts))
+        return [name for _, _, name, _ in self.check("memory")[1]]
+
     def leave_cases_out(self):
         specs = os.path.join(self.memory, "specs")
         write(os.path.join(specs, "Lib.antt"), read(os.path.join(specs, "Lib.antt")).replace("pub mod Cases\n", ""))
@@ -319,7 +331,7 @@ def try_slip(copy, slip):
     others = [e for e in errors if not e[0].endswith("specs/Cases.antt")]
     if others:
         fail(f"slip {slip.number} is no definition: {others[0]}")
-    print(f"  the twelve bench cases: {'all hold' if cases else '`every-case` is refused'}")
+    print(f"  the twelve bench cases: {'all hold' if cases else '`every-case` is refused, for ' + ', '.join(copy.refused_cases())}")
     if not cases:
         copy.leave_cases_out()
         if not copy.check("memory")[0]:
