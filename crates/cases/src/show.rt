@@ -1,30 +1,5 @@
-// What a case shows. A thing to show is two numbers: which, and of what.
-
-// The first word that no tuple takes.
-pub const TOP: u32 = 0;
-
-// The word at an address.
-pub const WORD: u32 = 1;
-
-// A register's word.
-pub const REGISTER: u32 = 2;
-
-// The handle in a register.
-pub const HANDLE: u32 = 3;
-
-// Where an entry's tuple lies.
-pub const ADDRESS: u32 = 4;
-
-// The free list, in order.
-pub const FREE: u32 = 5;
-
-// Whether every word from an address on is data 0.
-pub const ZEROS: u32 = 6;
-
-// Where the state's 36 numbers have top and the free list's head.
-const TOP_AT: usize = 18;
-
-const FREE_AT: usize = 19;
+// What a case shows of its box.
+use crate::bench::Bench;
 
 // A number as an index.
 fn wide(n: u32) -> usize {
@@ -47,8 +22,23 @@ fn word(bits: u32, pointer: bool) {
     io::print_hex(1, bits as u64, 8);
 }
 
+// Whether every word from an address on is data 0.
+fn zero_from(from: usize, words: [u32; 16], flags: [bool; 16]) -> bool {
+    let mut i = from;
+    while i < 16 {
+        if words[i] != 0 {
+            return false;
+        }
+        if flags[i] {
+            return false;
+        }
+        i += 1;
+    }
+    true
+}
+
 // The handles of the free list, at most four.
-fn free_list(first: u32, links: &[u32; 4]) {
+fn free_list(first: u32, links: [u32; 4]) {
     let mut h = wide(first);
     let mut left: u32 = 4;
     while 0 < left {
@@ -64,94 +54,77 @@ fn free_list(first: u32, links: &[u32; 4]) {
     }
 }
 
-// Whether every word from an address on is data 0.
-fn zero_from(from: usize, words: &[u32; 16], flags: &[bool; 16]) -> bool {
-    let mut i = from;
-    while i < 16 {
-        if words[i] != 0 {
-            return false;
-        }
-        if flags[i] {
-            return false;
-        }
-        i += 1;
-    }
-    true
-}
-
-// One thing of the state: top, the free list, or a register.
-fn show_state(what: u32, n: u32, state: &[u32; 36], links: &[u32; 4]) {
-    let i = wide(n);
-    if what == TOP {
+impl Bench {
+    // The first word that no tuple takes.
+    pub fn top(self) -> Bench {
         io::write_all(1, b", top");
-        number(state[TOP_AT]);
-        return;
+        number(self.state.top);
+        self
     }
-    if what == FREE {
-        io::write_all(1, b", free");
-        free_list(state[FREE_AT], links);
-        return;
-    }
-    if 8 <= i {
-        return;
-    }
-    if what == HANDLE {
-        io::write_all(1, b", handle");
-        number(state[i + 2] / 65536);
-        return;
-    }
-    io::write_all(1, b", register");
-    number(n);
-    word(state[i + 2], state[i + 10] != 0);
-}
 
-// One thing of the columns: a word, an entry's address, or whether the rest is zero.
-fn show_columns(what: u32, n: u32, words: &[u32; 16], flags: &[bool; 16], addresses: &[u32; 4]) {
-    let i = wide(n);
-    if what == ZEROS {
-        if zero_from(i, words, flags) {
+    // The free list, in order.
+    pub fn free(self) -> Bench {
+        let links = self.links;
+        io::write_all(1, b", free");
+        free_list(self.state.free, links);
+        self
+    }
+
+    // The word at an address below 16.
+    pub fn word(self, at: u32) -> Bench {
+        let i = wide(at);
+        if i < 16 {
+            io::write_all(1, b", word");
+            number(at);
+            word(self.words[i], self.flags[i]);
+        }
+        self
+    }
+
+    // Whether every word from an address on is data 0.
+    pub fn zeros(self, from: u32) -> Bench {
+        let words = self.words;
+        let flags = self.flags;
+        if zero_from(wide(from), words, flags) {
             io::write_all(1, b", zero from");
         } else {
             io::write_all(1, b", not zero from");
         }
-        number(n);
-        return;
+        number(from);
+        self
     }
-    if what == WORD {
-        if 16 <= i {
-            return;
-        }
-        io::write_all(1, b", word");
-        number(n);
-        word(words[i], flags[i]);
-        return;
-    }
-    if 4 <= i {
-        return;
-    }
-    io::write_all(1, b", address");
-    number(n);
-    number(addresses[i]);
-}
 
-// Everything that is asked, in order.
-pub fn show_all(
-    seen: &[u32],
-    state: &[u32; 36],
-    words: &[u32; 16],
-    flags: &[bool; 16],
-    addresses: &[u32; 4],
-    links: &[u32; 4],
-) {
-    let mut i = 0;
-    while 2 <= seen.len() - i {
-        let what = seen[i];
-        let which = seen[i + 1];
-        if what == WORD || what == ADDRESS || what == ZEROS {
-            show_columns(what, which, words, flags, addresses);
-        } else {
-            show_state(what, which, state, links);
+    // The word in a register below 8.
+    pub fn register(self, r: u32) -> Bench {
+        let i = wide(r);
+        let s = self.state;
+        if i < 8 {
+            io::write_all(1, b", register");
+            number(r);
+            word(s.registers[i], s.flags[i]);
         }
-        i += 2;
+        self
+    }
+
+    // The handle in a register below 8.
+    pub fn handle(self, r: u32) -> Bench {
+        let i = wide(r);
+        let s = self.state;
+        if i < 8 {
+            io::write_all(1, b", handle");
+            number(s.registers[i] / 65536);
+        }
+        self
+    }
+
+    // Where the tuple of a handle below 4 lies.
+    pub fn address(self, h: u32) -> Bench {
+        let i = wide(h);
+        if i < 4 {
+            io::write_all(1, b", address");
+            number(h);
+            number(self.addresses[i]);
+        }
+        self
     }
 }

@@ -30,8 +30,8 @@ number-requires c κs = search needs
 mul-wide : tie.Need-mul-wide Inv-loop μ-loop
 mul-wide c = search needs
 
-element-copy-out-wide : tie.Need-element-copy-out-wide Inv-loop μ-loop
-element-copy-out-wide c = search needs
+array-read-wide : tie.Need-array-read-wide Inv-loop μ-loop
+array-read-wide c = search needs
 
 wide-requires-2 : tie.Need-wide-requires-2 Inv-loop μ-loop
 wide-requires-2 c κs = search needs
@@ -61,7 +61,7 @@ free-list-spec =
     cast-number
     number-requires
     mul-wide
-    element-copy-out-wide
+    array-read-wide
     wide-requires-2
     sub-left
     loop-less
