@@ -50,14 +50,14 @@ fn tuples() {
     end(second(case(b"P2")).handle(1).top());
 }
 
-// A cycle in place, one that frees all, and one on an empty heap.
+// A cycle in place, and one that frees all.
 fn cycles() {
     end(third(case(b"P3")).address(1).address(2).top());
     let dropped = third(case(b"P4")).ask(Request::Setd { r: 0, v: 0 });
     end(dropped.run(CYCLE).top().free());
 }
 
-// A cycle that moves a tuple, and a word read and written while it is moved.
+// A cycle that moves a tuple, a word read and written while it is moved, and a cycle on an empty heap.
 fn moves() {
     end(fifth(case(b"P5")).run(CYCLE).top().word(0).word(1).zeros(2));
     let loaded = fifth(case(b"P6"))
