@@ -1,0 +1,197 @@
+// A box with its own buffers, 16 words and 4 entries, that goes through a case by value.
+use crate::show::number;
+use memory::Request;
+use memory::State;
+
+// The box, and what the last call answered.
+pub struct Bench {
+    pub state: State,
+    pub answer: u32,
+    pub words: [u32; 16],
+    pub flags: [bool; 16],
+    pub addresses: [u32; 4],
+    pub sizes: [u32; 4],
+    pub links: [u32; 4],
+    pub marks: [bool; 4],
+    pub deeps: [bool; 4],
+}
+
+// The box after some steps, and how many.
+struct Ran {
+    bench: Bench,
+    steps: u32,
+}
+
+// A state before any opening.
+fn no_state() -> State {
+    State {
+        m: 0,
+        h: 0,
+        registers: [0; 8],
+        flags: [false; 8],
+        top: 0,
+        free: 0,
+        phase: 0,
+        live: 0,
+        current: 0,
+        next: 0,
+        src: 0,
+        dest: 0,
+        tuple: 0,
+        size: 0,
+        index: 0,
+        copy: 0,
+        copy_flag: false,
+        held: false,
+        begun: false,
+        hold_register: 0,
+        hold_size: 0,
+        hold_tag: 0,
+    }
+}
+
+impl Bench {
+    // The box opened 16, 4.
+    pub fn opened() -> Bench {
+        let mut words = [0u32; 16];
+        let mut flags = [false; 16];
+        let mut addresses = [0u32; 4];
+        let mut sizes = [0u32; 4];
+        let mut links = [0u32; 4];
+        let mut marks = [false; 4];
+        let mut deeps = [false; 4];
+        let done = memory::open(
+            16,
+            4,
+            no_state(),
+            &mut words,
+            &mut flags,
+            &mut addresses,
+            &mut sizes,
+            &mut links,
+            &mut marks,
+            &mut deeps,
+        );
+        let state = done.state;
+        Bench {
+            state,
+            answer: done.answer,
+            words,
+            flags,
+            addresses,
+            sizes,
+            links,
+            marks,
+            deeps,
+        }
+    }
+
+    // The box after a request.
+    fn asked(self, q: Request) -> Bench {
+        let mut words = self.words;
+        let mut flags = self.flags;
+        let mut addresses = self.addresses;
+        let mut sizes = self.sizes;
+        let mut links = self.links;
+        let mut marks = self.marks;
+        let mut deeps = self.deeps;
+        let before = self.state;
+        let done = memory::request(
+            q,
+            before,
+            &mut words,
+            &mut flags,
+            &mut addresses,
+            &mut sizes,
+            &mut links,
+            &mut marks,
+            &mut deeps,
+        );
+        let state = done.state;
+        Bench {
+            state,
+            answer: done.answer,
+            words,
+            flags,
+            addresses,
+            sizes,
+            links,
+            marks,
+            deeps,
+        }
+    }
+
+    // The box after one step of the collector.
+    fn stepped(self) -> Bench {
+        let mut words = self.words;
+        let mut flags = self.flags;
+        let mut addresses = self.addresses;
+        let mut sizes = self.sizes;
+        let mut links = self.links;
+        let mut marks = self.marks;
+        let mut deeps = self.deeps;
+        let before = self.state;
+        let done = memory::step(
+            before,
+            &mut words,
+            &mut flags,
+            &mut addresses,
+            &mut sizes,
+            &mut links,
+            &mut marks,
+            &mut deeps,
+        );
+        let state = done.state;
+        Bench {
+            state,
+            answer: done.answer,
+            words,
+            flags,
+            addresses,
+            sizes,
+            links,
+            marks,
+            deeps,
+        }
+    }
+
+    // A request; writes its answer.
+    pub fn ask(self, q: Request) -> Bench {
+        let b = self.asked(q);
+        number(b.answer);
+        b
+    }
+
+    // Single steps up to one that does not answer 30, at most so many, with how many were done.
+    fn steps(self, most: u32) -> Ran {
+        let mut b = self;
+        let mut n: u32 = 0;
+        while n < most {
+            b = b.stepped();
+            n += 1;
+            if b.answer != 30 {
+                break;
+            }
+        }
+        Ran { bench: b, steps: n }
+    }
+
+    // Such steps; writes how many were done and the last answer.
+    pub fn run(self, most: u32) -> Bench {
+        let ran = self.steps(most);
+        let b = ran.bench;
+        io::write_all(1, b" step");
+        number(ran.steps);
+        number(b.answer);
+        b
+    }
+
+    // Such steps; writes the last answer.
+    pub fn later(self, most: u32) -> Bench {
+        let ran = self.steps(most);
+        let b = ran.bench;
+        io::write_all(1, b" later");
+        number(b.answer);
+        b
+    }
+}

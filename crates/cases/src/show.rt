@@ -1,0 +1,130 @@
+// What a case shows of its box.
+use crate::bench::Bench;
+
+// A number as an index.
+fn wide(n: u32) -> usize {
+    n as usize
+}
+
+// A space and a number.
+pub fn number(n: u32) {
+    io::write_all(1, b" ");
+    io::print_decimal(1, n as u64);
+}
+
+// A space, what kind of word it is, and its bits.
+fn word(bits: u32, pointer: bool) {
+    if pointer {
+        io::write_all(1, b" pointer ");
+    } else {
+        io::write_all(1, b" data ");
+    }
+    io::print_hex(1, bits as u64, 8);
+}
+
+// Whether every word from an address on is data 0.
+fn zero_from(from: usize, words: [u32; 16], flags: [bool; 16]) -> bool {
+    let mut i = from;
+    while i < 16 {
+        if words[i] != 0 {
+            return false;
+        }
+        if flags[i] {
+            return false;
+        }
+        i += 1;
+    }
+    true
+}
+
+// The handles of the free list, at most four.
+fn free_list(first: u32, links: [u32; 4]) {
+    let mut h = wide(first);
+    let mut left: u32 = 4;
+    while 0 < left {
+        if h == 0 {
+            return;
+        }
+        if 4 <= h {
+            return;
+        }
+        number(h as u32);
+        h = wide(links[h]);
+        left -= 1;
+    }
+}
+
+impl Bench {
+    // The first word that no tuple takes.
+    pub fn top(self) -> Bench {
+        io::write_all(1, b", top");
+        number(self.state.top);
+        self
+    }
+
+    // The free list, in order.
+    pub fn free(self) -> Bench {
+        let links = self.links;
+        io::write_all(1, b", free");
+        free_list(self.state.free, links);
+        self
+    }
+
+    // The word at an address below 16.
+    pub fn word(self, at: u32) -> Bench {
+        let i = wide(at);
+        if i < 16 {
+            io::write_all(1, b", word");
+            number(at);
+            word(self.words[i], self.flags[i]);
+        }
+        self
+    }
+
+    // Whether every word from an address on is data 0.
+    pub fn zeros(self, from: u32) -> Bench {
+        let words = self.words;
+        let flags = self.flags;
+        if zero_from(wide(from), words, flags) {
+            io::write_all(1, b", zero from");
+        } else {
+            io::write_all(1, b", not zero from");
+        }
+        number(from);
+        self
+    }
+
+    // The word in a register below 8.
+    pub fn register(self, r: u32) -> Bench {
+        let i = wide(r);
+        let s = self.state;
+        if i < 8 {
+            io::write_all(1, b", register");
+            number(r);
+            word(s.registers[i], s.flags[i]);
+        }
+        self
+    }
+
+    // The handle in a register below 8.
+    pub fn handle(self, r: u32) -> Bench {
+        let i = wide(r);
+        let s = self.state;
+        if i < 8 {
+            io::write_all(1, b", handle");
+            number(s.registers[i] / 65536);
+        }
+        self
+    }
+
+    // Where the tuple of a handle below 4 lies.
+    pub fn address(self, h: u32) -> Bench {
+        let i = wide(h);
+        if i < 4 {
+            io::write_all(1, b", address");
+            number(h);
+            number(self.addresses[i]);
+        }
+        self
+    }
+}
