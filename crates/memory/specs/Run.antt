@@ -39,3 +39,8 @@ run-on (suc n) b =
 -- sizes, lengths and phase are tested first, also with budget 0
 unfoldable pub run : ℕ → Box → Ran
 run budget b = cond (sound b) (run-on budget b) (ran b 9 0)
+
+-- so many single steps, one after the other
+unfoldable pub after-steps : ℕ → Box → Box
+after-steps zero b = b
+after-steps (suc n) b = after-steps n (step b .box)
