@@ -14,7 +14,7 @@ ghost use Rattle.memory.specs.Request.{load, size, tag, tag-at};
 
 impl State {
     // Register r takes the word that s and k name. Answers 0, or what refuses that word, and then nothing is changed.
-    pub fn load(
+    pub(crate) fn load(
         self,
         r: u16,
         s: u16,
@@ -38,7 +38,7 @@ impl State {
     }
 
     // Register r becomes the size of the tuple that s points to, 0 for nil. Answers 0; 2 for data, 9 for a handle outside.
-    pub fn size(self, r: u16, s: u16, sizes: &[u32]) -> Answered
+    pub(crate) fn size(self, r: u16, s: u16, sizes: &[u32]) -> Answered
         requires { ⌜ (length (now sizes) ≡ self .h) × (r < 8) × (s < 8) ⌝ }
         ensures { λ a. ⌜ ((ws : List ℕ) (fs : List Bool) (ads ls : List ℕ) (ms ds : List Bool) → reply (boxed ws fs ads (now (sizes .entry)) ls ms ds (a .state)) (a .answer) ≡ size r s (boxed ws fs ads (now (sizes .entry)) ls ms ds self)) ⌝ }
     {
@@ -74,7 +74,14 @@ impl State {
 
     // Register r becomes the tag of the tuple that s points to, 0 for nil. Answers 0, or what refuses it, and then nothing is
     // changed.
-    pub fn tag(self, r: u16, s: u16, words: &[u32], flags: &[bool], addresses: &[u32]) -> Answered
+    pub(crate) fn tag(
+        self,
+        r: u16,
+        s: u16,
+        words: &[u32],
+        flags: &[bool],
+        addresses: &[u32],
+    ) -> Answered
         requires { ⌜ (length (now words) ≡ self .m) × (length (now flags) ≡ self .m) × (length (now addresses) ≡ self .h) × (r < 8) × (s < 8) ⌝ }
         ensures { λ a. ⌜ ((ss ls : List ℕ) (ms ds : List Bool) → reply (boxed (now (words .entry)) (now (flags .entry)) (now (addresses .entry)) ss ls ms ds (a .state)) (a .answer) ≡ tag r s (boxed (now (words .entry)) (now (flags .entry)) (now (addresses .entry)) ss ls ms ds self)) ⌝ }
     {

@@ -14,7 +14,7 @@ ghost use Rattle.memory.specs.Decide.{end-refused};
 impl State {
     // Whether the end of a cycle is refused: the held request would be granted, and its register is above 7 or the free
     // handle is no entry.
-    pub fn end_refused(self) -> bool
+    pub(crate) fn end_refused(self) -> bool
         ensures { λ r. ⌜ ((ws : List ℕ) (fs : List Bool) (ads ss ls : List ℕ) (ms ds : List Bool) → r ≡ end-refused (boxed ws fs ads ss ls ms ds self)) ⌝ }
     {
         let n = self.hold_size;
@@ -83,7 +83,7 @@ impl State {
 
     // Ends a cycle that is not refused: live is 0 and the phase Rest. Answers 31 with nothing held, else what the held request
     // gives.
-    pub fn end_cycle(
+    pub(crate) fn end_cycle(
         mut self,
         words: &mut [u32],
         flags: &mut [bool],

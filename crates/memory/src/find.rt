@@ -26,7 +26,7 @@ pub enum Found {
 
 impl State {
     // What register s names. Data is refused with 2, a handle at or above H with 9.
-    pub fn find_tuple(self, s: u16) -> Named
+    pub(crate) fn find_tuple(self, s: u16) -> Named
         requires { ⌜ s < 8 ⌝ }
         ensures { λ r. ⌜ ((ws : List ℕ) (fs : List Bool) (ads ss ls : List ℕ) (ms ds : List Bool) (z : Reply) (f : ℕ → Reply) → when-named r (boxed ws fs ads ss ls ms ds self) z f ≡ at-tuple (register s (boxed ws fs ads ss ls ms ds self)) (boxed ws fs ads ss ls ms ds self) z f) ⌝ }
         ensures { λ r. ⌜ RightName r self ⌝ }
@@ -47,7 +47,7 @@ impl State {
     }
 
     // Word n of tuple h. Beyond its size it is refused with 3, with a place outside memory with 9.
-    pub fn find_slot(self, h: u32, n: u32, addresses: &[u32], sizes: &[u32]) -> Found
+    pub(crate) fn find_slot(self, h: u32, n: u32, addresses: &[u32], sizes: &[u32]) -> Found
         requires { ⌜ (length (now addresses) ≡ self .h) × (length (now sizes) ≡ self .h) × (h < self .h) × (n < 131072) ⌝ }
         ensures { λ r. ⌜ ((ws : List ℕ) (fs : List Bool) (ls : List ℕ) (ms ds : List Bool) (f : Use) → when-found r (boxed ws fs (now (addresses .entry)) (now (sizes .entry)) ls ms ds self) f ≡ at-word h n (boxed ws fs (now (addresses .entry)) (now (sizes .entry)) ls ms ds self) (f h)) ⌝ }
         ensures { λ r. ⌜ RightSlot r self ⌝ }
@@ -66,7 +66,7 @@ impl State {
 
     // The word that s, its offset and k name. Data is refused with 2, nil and a word beyond the size with 3, a handle or a
     // place that is outside with 9.
-    pub fn find_word(self, s: u16, k: u16, addresses: &[u32], sizes: &[u32]) -> Found
+    pub(crate) fn find_word(self, s: u16, k: u16, addresses: &[u32], sizes: &[u32]) -> Found
         requires { ⌜ (length (now addresses) ≡ self .h) × (length (now sizes) ≡ self .h) × (s < 8) ⌝ }
         ensures { λ r. ⌜ ((ws : List ℕ) (fs : List Bool) (ls : List ℕ) (ms ds : List Bool) (f : Use) → when-found r (boxed ws fs (now (addresses .entry)) (now (sizes .entry)) ls ms ds self) f ≡ at-tuple (register s (boxed ws fs (now (addresses .entry)) (now (sizes .entry)) ls ms ds self)) (boxed ws fs (now (addresses .entry)) (now (sizes .entry)) ls ms ds self) (reply (boxed ws fs (now (addresses .entry)) (now (sizes .entry)) ls ms ds self) 3) (λ h. at-word h (word-number (register s (boxed ws fs (now (addresses .entry)) (now (sizes .entry)) ls ms ds self)) k) (boxed ws fs (now (addresses .entry)) (now (sizes .entry)) ls ms ds self) (f h))) ⌝ }
         ensures { λ r. ⌜ RightSlot r self ⌝ }

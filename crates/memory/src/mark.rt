@@ -14,7 +14,7 @@ ghost use Rattle.memory.specs.Collector.{rest, scan, scan-next, scan-wor
 
 impl State {
     // Whether the address base + offset is one of memory.
-    pub fn reaches(self, base: u32, offset: u32) -> bool
+    pub(crate) fn reaches(self, base: u32, offset: u32) -> bool
         ensures { λ r. ⌜ r ≡ ltb (base + offset) (self .m) ⌝ }
     {
         let m = self.m;
@@ -25,7 +25,7 @@ impl State {
     }
 
     // Phase 0, Rest: live and both lists become empty, the hold notes that a cycle begins under it, and marking starts.
-    pub fn rest(mut self) -> Answered
+    pub(crate) fn rest(mut self) -> Answered
         ensures { λ r. ⌜ ((ws : List ℕ) (fs : List Bool) (ads ss ls : List ℕ) (ms ds : List Bool) → reply (boxed ws fs ads ss ls ms ds (r .state)) (r .answer) ≡ rest (boxed ws fs ads ss ls ms ds self)) ⌝ }
     {
         self.live = 0;
@@ -60,7 +60,7 @@ impl State {
     }
 
     // Takes the head of the next list to scan. Answers 30, or 9 where that head is no entry.
-    pub fn scan_next(mut self, addresses: &[u32], sizes: &[u32], links: &[u32]) -> Answered
+    pub(crate) fn scan_next(mut self, addresses: &[u32], sizes: &[u32], links: &[u32]) -> Answered
         requires { ⌜ (length (now addresses) ≡ self .h) × (length (now sizes) ≡ self .h) × (length (now links) ≡ self .h) ⌝ }
         ensures { λ r. ⌜ ((ws : List ℕ) (fs ms ds : List Bool) → reply (boxed ws fs (now (addresses .entry)) (now (sizes .entry)) (now (links .entry)) ms ds (r .state)) (r .answer) ≡ scan-next (boxed ws fs (now (addresses .entry)) (now (sizes .entry)) (now (links .entry)) ms ds self)) ⌝ }
     {
@@ -123,7 +123,7 @@ impl State {
 
     // Phase 2, Mark scan: one word of the tuple under the scan, or behind its last word the next tuple to scan. Answers 30, or
     // 9 where the word is not in memory or the current list's head is no entry.
-    pub fn mark_scan(
+    pub(crate) fn mark_scan(
         self,
         words: &[u32],
         flags: &[bool],
@@ -150,7 +150,7 @@ impl State {
     }
 
     // Phase 3, Mark add: the tuple just found is shaded, and the scan goes on. Answers 30, or 9 where it can't be shaded.
-    pub fn mark_add(
+    pub(crate) fn mark_add(
         self,
         sizes: &[u32],
         links: &mut [u32],

@@ -41,7 +41,7 @@ impl State {
 
     // Where index i of tuple h is: the copy register for the word on its way, behind dest for a word already moved, otherwise
     // behind h's address.
-    pub fn place(self, h: u32, i: u32, addresses: &[u32]) -> Place
+    pub(crate) fn place(self, h: u32, i: u32, addresses: &[u32]) -> Place
         requires { ⌜ (length (now addresses) ≡ self .h) × (h < self .h) ⌝ }
         ensures { λ r. ⌜ ((ws : List ℕ) (fs : List Bool) (ss ls : List ℕ) (ms ds : List Bool) → place-of r ≡ place h i (boxed ws fs (now (addresses .entry)) ss ls ms ds self)) ⌝ }
     {
@@ -66,7 +66,7 @@ impl State {
     }
 
     // Whether a place is the copy register or an address below M.
-    pub fn in_memory(self, p: Place) -> bool
+    pub(crate) fn in_memory(self, p: Place) -> bool
         ensures { λ r. ⌜ ((ws : List ℕ) (fs : List Bool) (ads ss ls : List ℕ) (ms ds : List Bool) → r ≡ in-memory (place-of p) (boxed ws fs ads ss ls ms ds self)) ⌝ }
     {
         let m = self.m as usize;
@@ -77,7 +77,7 @@ impl State {
     }
 
     // The word at a place.
-    pub fn read(self, p: Place, words: &[u32], flags: &[bool]) -> Word
+    pub(crate) fn read(self, p: Place, words: &[u32], flags: &[bool]) -> Word
         requires { ⌜ (length (now words) ≡ self .m) × (length (now flags) ≡ self .m) × Within p (self .m) ⌝ }
         ensures { λ w. ⌜ ((ads ss ls : List ℕ) (ms ds : List Bool) → word-of w ≡ read (place-of p) (boxed (now (words .entry)) (now (flags .entry)) ads ss ls ms ds self)) ⌝ }
     {
@@ -94,7 +94,7 @@ impl State {
     }
 
     // Puts a word at a place.
-    pub fn write(mut self, p: Place, w: Word, words: &mut [u32], flags: &mut [bool]) -> State
+    pub(crate) fn write(mut self, p: Place, w: Word, words: &mut [u32], flags: &mut [bool]) -> State
         requires { ⌜ (length (now words) ≡ self .m) × (length (now flags) ≡ self .m) × Within p (self .m) ⌝ }
         ensures { λ s. ⌜ ((ads ss ls : List ℕ) (ms ds : List Bool) → boxed (now (words .exit)) (now (flags .exit)) ads ss ls ms ds s ≡ write (place-of p) (word-of w) (boxed (now (words .entry)) (now (flags .entry)) ads ss ls ms ds self)) ⌝ }
     {

@@ -23,7 +23,7 @@ fn same_word(v: Word, w: Word) -> bool
 
 impl State {
     // Register r becomes a word. Answers 0.
-    pub fn set_register(self, r: u16, w: Word) -> Answered
+    pub(crate) fn set_register(self, r: u16, w: Word) -> Answered
         requires { ⌜ r < 8 ⌝ }
         ensures { λ a. ⌜ ((ws : List ℕ) (fs : List Bool) (ads ss ls : List ℕ) (ms ds : List Bool) → reply (boxed ws fs ads ss ls ms ds (a .state)) (a .answer) ≡ done (put-register r (word-of w) (boxed ws fs ads ss ls ms ds self))) ⌝ }
     {
@@ -32,7 +32,7 @@ impl State {
     }
 
     // Register r becomes data v. Answers 0.
-    pub fn set_data(self, r: u16, v: u32) -> Answered
+    pub(crate) fn set_data(self, r: u16, v: u32) -> Answered
         requires { ⌜ r < 8 ⌝ }
         ensures { λ a. ⌜ ((ws : List ℕ) (fs : List Bool) (ads ss ls : List ℕ) (ms ds : List Bool) → reply (boxed ws fs ads ss ls ms ds (a .state)) (a .answer) ≡ done (put-register r (data-word v) (boxed ws fs ads ss ls ms ds self))) ⌝ }
     {
@@ -46,7 +46,7 @@ impl State {
     }
 
     // Register r becomes nil. Answers 0.
-    pub fn set_nil(self, r: u16) -> Answered
+    pub(crate) fn set_nil(self, r: u16) -> Answered
         requires { ⌜ r < 8 ⌝ }
         ensures { λ a. ⌜ ((ws : List ℕ) (fs : List Bool) (ads ss ls : List ℕ) (ms ds : List Bool) → reply (boxed ws fs ads ss ls ms ds (a .state)) (a .answer) ≡ done (put-register r (pointer 0 0) (boxed ws fs ads ss ls ms ds self))) ⌝ }
     {
@@ -60,7 +60,7 @@ impl State {
     }
 
     // Register r becomes what register s holds. Answers 0.
-    pub fn move_register(self, r: u16, s: u16) -> Answered
+    pub(crate) fn move_register(self, r: u16, s: u16) -> Answered
         requires { ⌜ (r < 8) × (s < 8) ⌝ }
         ensures { λ a. ⌜ ((ws : List ℕ) (fs : List Bool) (ads ss ls : List ℕ) (ms ds : List Bool) → reply (boxed ws fs ads ss ls ms ds (a .state)) (a .answer) ≡ done (put-register r (register s (boxed ws fs ads ss ls ms ds self)) (boxed ws fs ads ss ls ms ds self))) ⌝ }
     {
@@ -68,7 +68,7 @@ impl State {
     }
 
     // The offset in register r grows by n. Answers 0; 2 for data, 4 past 65,535, and then nothing is changed.
-    pub fn advance(self, r: u16, n: u16) -> Answered
+    pub(crate) fn advance(self, r: u16, n: u16) -> Answered
         requires { ⌜ r < 8 ⌝ }
         ensures { λ a. ⌜ ((ws : List ℕ) (fs : List Bool) (ads ss ls : List ℕ) (ms ds : List Bool) → reply (boxed ws fs ads ss ls ms ds (a .state)) (a .answer) ≡ advance r n (boxed ws fs ads ss ls ms ds self)) ⌝ }
     {
@@ -91,7 +91,7 @@ impl State {
     }
 
     // Register r becomes data 1 if s and t are equal in word and flag, otherwise data 0. Answers 0.
-    pub fn same(self, r: u16, s: u16, t: u16) -> Answered
+    pub(crate) fn same(self, r: u16, s: u16, t: u16) -> Answered
         requires { ⌜ (r < 8) × (s < 8) × (t < 8) ⌝ }
         ensures { λ a. ⌜ ((ws : List ℕ) (fs : List Bool) (ads ss ls : List ℕ) (ms ds : List Bool) → reply (boxed ws fs ads ss ls ms ds (a .state)) (a .answer) ≡ same r s t (boxed ws fs ads ss ls ms ds self)) ⌝ }
     {

@@ -110,7 +110,7 @@ impl State {
 
     // Phase 5, Sweep read: one word of the tuple goes to the copy register, or behind its last word the move is finished. Answers
     // 30, what the end of the cycle gives, or 9.
-    pub fn sweep_read(
+    pub(crate) fn sweep_read(
         self,
         words: &mut [u32],
         flags: &mut [bool],
@@ -139,7 +139,7 @@ impl State {
     }
 
     // Phase 6, Sweep clear: the word just copied becomes data 0 where it was. Answers 30, or 9 where it is not in memory.
-    pub fn sweep_clear(mut self, words: &mut [u32], flags: &mut [bool]) -> Answered
+    pub(crate) fn sweep_clear(mut self, words: &mut [u32], flags: &mut [bool]) -> Answered
         requires { ⌜ (length (now words) ≡ self .m) × (length (now flags) ≡ self .m) × (self .m < 65536) ⌝ }
         ensures { λ r. ⌜ ((ads ss ls : List ℕ) (ms ds : List Bool) → reply (boxed (now (words .exit)) (now (flags .exit)) ads ss ls ms ds (r .state)) (r .answer) ≡ sweep-clear (boxed (now (words .entry)) (now (flags .entry)) ads ss ls ms ds self)) ⌝ }
     {
@@ -162,7 +162,7 @@ impl State {
     }
 
     // Phase 7, Sweep write: the copy register goes to dest + index. Answers 30, or 9 where that is not in memory.
-    pub fn sweep_write(mut self, words: &mut [u32], flags: &mut [bool]) -> Answered
+    pub(crate) fn sweep_write(mut self, words: &mut [u32], flags: &mut [bool]) -> Answered
         requires { ⌜ (length (now words) ≡ self .m) × (length (now flags) ≡ self .m) × (self .m < 65536) ⌝ }
         ensures { λ r. ⌜ ((ads ss ls : List ℕ) (ms ds : List Bool) → reply (boxed (now (words .exit)) (now (flags .exit)) ads ss ls ms ds (r .state)) (r .answer) ≡ sweep-write (boxed (now (words .entry)) (now (flags .entry)) ads ss ls ms ds self)) ⌝ }
     {
@@ -200,7 +200,7 @@ impl State {
 
     // Phase 8, Sweep zero: one word of a released tuple becomes data 0, or behind its last word the sweep leaves it. Answers 30,
     // what the end of the cycle gives, or 9.
-    pub fn sweep_zero(
+    pub(crate) fn sweep_zero(
         self,
         words: &mut [u32],
         flags: &mut [bool],

@@ -117,7 +117,7 @@ impl State {
 
     // Phase 1, Mark next: the head of the next list is taken to scan; with that list empty the registers are looked at. Answers
     // 30, what the end of the cycle gives, or 9.
-    pub fn mark_next(
+    pub(crate) fn mark_next(
         self,
         words: &mut [u32],
         flags: &mut [bool],

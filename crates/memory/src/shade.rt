@@ -11,7 +11,7 @@ ghost use Rattle.memory.specs.Place.{can-shade, shade};
 
 impl State {
     // Whether handle h can be looked up: it is 1 to H-1.
-    pub fn is_entry(self, h: u32) -> bool
+    pub(crate) fn is_entry(self, h: u32) -> bool
         ensures { λ r. ⌜ ((ws : List ℕ) (fs : List Bool) (ads ss ls : List ℕ) (ms ds : List Bool) → r ≡ is-entry h (boxed ws fs ads ss ls ms ds self)) ⌝ }
     {
         if h == 0 {
@@ -21,7 +21,7 @@ impl State {
     }
 
     // Whether tuple h can be shaded: it has an entry and, if it is unmarked, live + size + 1 stays within M.
-    pub fn can_shade(self, h: u32, sizes: &[u32], marks: &[bool]) -> bool
+    pub(crate) fn can_shade(self, h: u32, sizes: &[u32], marks: &[bool]) -> bool
         requires { ⌜ (length (now sizes) ≡ self .h) × (length (now marks) ≡ self .h) ⌝ }
         ensures { λ r. ⌜ ((ws : List ℕ) (fs : List Bool) (ads ls : List ℕ) (ds : List Bool) → r ≡ can-shade h (boxed ws fs ads (now (sizes .entry)) ls (now (marks .entry)) ds self)) ⌝ }
     {
@@ -45,7 +45,7 @@ impl State {
     }
 
     // Shades tuple h: unmarked, it is marked, counted in live and, if deep, put at the head of the next list.
-    pub fn shade(
+    pub(crate) fn shade(
         mut self,
         h: u32,
         sizes: &[u32],

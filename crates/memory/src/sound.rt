@@ -73,7 +73,7 @@ fn lengths_are(
 }
 
 // Whether m and h are sizes that a box may have and are the lengths of the lent columns.
-pub fn right_sizes(
+pub(crate) fn right_sizes(
     m: u32,
     h: u32,
     words: &[u32],
@@ -93,7 +93,7 @@ pub fn right_sizes(
 }
 
 // Whether the state's sizes are right and the phase is 0 to 8. Where it is not so, every call answers 9.
-pub fn sound(
+pub(crate) fn sound(
     s: State,
     words: &[u32],
     flags: &[bool],

@@ -84,7 +84,7 @@ impl State {
     }
 
     // STORE: the word that s and k name takes register r. Answers 0, or what refuses it, and then nothing is changed.
-    pub fn store(
+    pub(crate) fn store(
         self,
         r: u16,
         s: u16,

@@ -14,7 +14,7 @@ ghost use Rattle.memory.specs.Collector.{go-on, start-zero, keep-in-plac
 
 impl State {
     // The sweep goes on in phase 4 with the tuple at address a, whose handle is there.
-    pub fn go_on(mut self, a: u32, words: &[u32], flags: &[bool]) -> State
+    pub(crate) fn go_on(mut self, a: u32, words: &[u32], flags: &[bool]) -> State
         requires { ⌜ (length (now words) ≡ self .m) × (length (now flags) ≡ self .m) × (a < self .m) ⌝ }
         ensures { λ r. ⌜ ((ads ss ls : List ℕ) (ms ds : List Bool) → (boxed (now (words .entry)) (now (flags .entry)) ads ss ls ms ds r) ≡ go-on a (boxed (now (words .entry)) (now (flags .entry)) ads ss ls ms ds self)) ⌝ }
     {
@@ -167,7 +167,7 @@ impl State {
 
     // Phase 4, Sweep scan: the tuple under the sweep is kept in place, to be moved, or released. Answers 30, what the end of the
     // cycle gives, or 9.
-    pub fn sweep_scan(
+    pub(crate) fn sweep_scan(
         self,
         words: &mut [u32],
         flags: &mut [bool],

@@ -13,7 +13,7 @@ ghost use Rattle.memory.specs.Boxed.{boxed};
 ghost use Rattle.memory.specs.Request.{no-room, can-make, new-tuple, hold, getm};
 
 // Two halves of 16 bits as one word: a handle above an offset, or above a tag.
-pub fn packed(upper: u32, lower: u32) -> u32
+pub(crate) fn packed(upper: u32, lower: u32) -> u32
     requires { ⌜ (upper < 65536) × (lower < 65536) ⌝ }
     ensures { λ r. ⌜ r ≡ upper * 65536 + lower ⌝ }
 {
@@ -22,7 +22,7 @@ pub fn packed(upper: u32, lower: u32) -> u32
 
 impl State {
     // The state with register r holding these bits and this flag.
-    pub fn put_register(mut self, r: u16, bits: u32, flag: bool) -> State
+    pub(crate) fn put_register(mut self, r: u16, bits: u32, flag: bool) -> State
         requires { ⌜ r < 8 ⌝ }
         ensures { λ s. ⌜ s ≡ with-registers (set (self .registers) r bits) (with-flags (set (self .flags) r flag) self) ⌝ }
     {
@@ -33,7 +33,7 @@ impl State {
     }
 
     // Whether a new tuple of n words finds no room: no free handle, or top + n + 1 above M.
-    pub fn no_room(self, n: u16) -> bool
+    pub(crate) fn no_room(self, n: u16) -> bool
         ensures { λ r. ⌜ ((ws : List ℕ) (fs : List Bool) (ads ss ls : List ℕ) (ms ds : List Bool) → r ≡ no-room n (boxed ws fs ads ss ls ms ds self)) ⌝ }
     {
         let size = n as u32;
@@ -51,7 +51,7 @@ impl State {
 
     // Whether a new tuple of n words that finds room can be made: its handle can be looked up, and outside Rest live + n + 1 is
     // not above M.
-    pub fn can_make(self, n: u16) -> bool
+    pub(crate) fn can_make(self, n: u16) -> bool
         ensures { λ r. ⌜ ((ws : List ℕ) (fs : List Bool) (ads ss ls : List ℕ) (ms ds : List Bool) → r ≡ can-make n (boxed ws fs ads ss ls ms ds self)) ⌝ }
     {
         let size = n as u32;
@@ -76,7 +76,7 @@ impl State {
     }
 
     // The state with a GETM put on hold; no cycle has begun under it yet.
-    pub fn put_on_hold(mut self, r: u16, n: u16, tag: u16) -> State
+    pub(crate) fn put_on_hold(mut self, r: u16, n: u16, tag: u16) -> State
         ensures { λ s. ⌜ ((ws : List ℕ) (fs : List Bool) (ads ss ls : List ℕ) (ms ds : List Bool) → boxed ws fs ads ss ls ms ds s ≡ hold r n tag (boxed ws fs ads ss ls ms ds self)) ⌝ }
     {
         self.held = true;
@@ -107,7 +107,7 @@ impl State {
 
     // Makes a tuple of n words: the first free handle, at top, its control word written and nothing else; r points to it. In
     // Rest it is unmarked, in any other phase it is marked and counted in live.
-    pub fn new_tuple(
+    pub(crate) fn new_tuple(
         self,
         r: u16,
         n: u16,
@@ -142,7 +142,7 @@ impl State {
 
     // GETM: a new tuple of n words, and r points to it. Answers 0; 5 where n + 1 is above M; 7 where there is no room, and then
     // only the hold is set; 9 where it cannot be made.
-    pub fn getm(
+    pub(crate) fn getm(
         self,
         r: u16,
         n: u16,

@@ -15,21 +15,21 @@ pub struct Word {
 
 impl Word {
     // The upper 16 bits: the handle of a pointer or of a control word.
-    pub fn handle(self) -> u32
+    pub(crate) fn handle(self) -> u32
         ensures { λ r. ⌜ (r ≡ handle-of (word-of self)) × (r < 65536) ⌝ }
     {
         self.bits / 65536
     }
 
     // The lower 16 bits: the offset of a pointer, or the tag of a control word.
-    pub fn offset(self) -> u32
+    pub(crate) fn offset(self) -> u32
         ensures { λ r. ⌜ (r ≡ offset-of (word-of self)) × (r < 65536) ⌝ }
     {
         self.bits % 65536
     }
 
     // Whether it is a pointer other than nil.
-    pub fn names_tuple(self) -> bool
+    pub(crate) fn names_tuple(self) -> bool
         ensures { λ r. ⌜ r ≡ names-tuple (word-of self) ⌝ }
     {
         if self.flag {
@@ -41,7 +41,7 @@ impl Word {
 
 impl State {
     // What register r holds.
-    pub fn register(self, r: u16) -> Word
+    pub(crate) fn register(self, r: u16) -> Word
         requires { ⌜ r < 8 ⌝ }
         ensures { λ w. ⌜ ((ws : List ℕ) (fs : List Bool) (ads ss ls : List ℕ) (ms ds : List Bool) → word-of w ≡ register r (boxed ws fs ads ss ls ms ds self)) ⌝ }
     {
