@@ -52,7 +52,7 @@ fn no_state() -> State {
 
 impl Bench {
     // The box opened 16, 4.
-    pub fn opened() -> Bench {
+    pub(crate) fn opened() -> Bench {
         let mut words = [0u32; 16];
         let mut flags = [false; 16];
         let mut addresses = [0u32; 4];
@@ -156,7 +156,7 @@ impl Bench {
     }
 
     // A request; writes its answer.
-    pub fn ask(self, q: Request) -> Bench {
+    pub(crate) fn ask(self, q: Request) -> Bench {
         let b = self.asked(q);
         number(b.answer);
         b
@@ -177,7 +177,7 @@ impl Bench {
     }
 
     // Such steps; writes how many were done and the last answer.
-    pub fn run(self, most: u32) -> Bench {
+    pub(crate) fn run(self, most: u32) -> Bench {
         let ran = self.steps(most);
         let b = ran.bench;
         io::write_all(1, b" step");
@@ -187,7 +187,7 @@ impl Bench {
     }
 
     // Such steps; writes the last answer.
-    pub fn later(self, most: u32) -> Bench {
+    pub(crate) fn later(self, most: u32) -> Bench {
         let ran = self.steps(most);
         let b = ran.bench;
         io::write_all(1, b" later");

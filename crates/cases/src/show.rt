@@ -7,7 +7,7 @@ fn wide(n: u32) -> usize {
 }
 
 // A space and a number.
-pub fn number(n: u32) {
+pub(crate) fn number(n: u32) {
     io::write_all(1, b" ");
     io::print_decimal(1, n as u64);
 }
@@ -56,14 +56,14 @@ fn free_list(first: u32, links: [u32; 4]) {
 
 impl Bench {
     // The first word that no tuple takes.
-    pub fn top(self) -> Bench {
+    pub(crate) fn top(self) -> Bench {
         io::write_all(1, b", top");
         number(self.state.top);
         self
     }
 
     // The free list, in order.
-    pub fn free(self) -> Bench {
+    pub(crate) fn free(self) -> Bench {
         let links = self.links;
         io::write_all(1, b", free");
         free_list(self.state.free, links);
@@ -71,7 +71,7 @@ impl Bench {
     }
 
     // The word at an address below 16.
-    pub fn word(self, at: u32) -> Bench {
+    pub(crate) fn word(self, at: u32) -> Bench {
         let i = wide(at);
         if i < 16 {
             io::write_all(1, b", word");
@@ -82,7 +82,7 @@ impl Bench {
     }
 
     // Whether every word from an address on is data 0.
-    pub fn zeros(self, from: u32) -> Bench {
+    pub(crate) fn zeros(self, from: u32) -> Bench {
         let words = self.words;
         let flags = self.flags;
         if zero_from(wide(from), words, flags) {
@@ -95,7 +95,7 @@ impl Bench {
     }
 
     // The word in a register below 8.
-    pub fn register(self, r: u32) -> Bench {
+    pub(crate) fn register(self, r: u32) -> Bench {
         let i = wide(r);
         let s = self.state;
         if i < 8 {
@@ -107,7 +107,7 @@ impl Bench {
     }
 
     // The handle in a register below 8.
-    pub fn handle(self, r: u32) -> Bench {
+    pub(crate) fn handle(self, r: u32) -> Bench {
         let i = wide(r);
         let s = self.state;
         if i < 8 {
@@ -118,7 +118,7 @@ impl Bench {
     }
 
     // Where the tuple of a handle below 4 lies.
-    pub fn address(self, h: u32) -> Bench {
+    pub(crate) fn address(self, h: u32) -> Bench {
         let i = wide(h);
         if i < 4 {
             io::write_all(1, b", address");
