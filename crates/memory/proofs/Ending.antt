@@ -86,9 +86,9 @@ module _ (b : Box) where
     unfolding try-held
     try-waits n t = simp (n, t)
 
-    pub try-granted : (a : Box) → b .state .held ≡ true → b .state .phase ≡ 0 → end-refused (bare (b .state)) ≡ false → no-room (b .state .«hold_size») b ≡ false → a ≡ new-tuple (b .state .«hold_register») (b .state .«hold_size») (b .state .«hold_tag») b → reply (with-state (with-held false (a .state)) a) 32 ≡ try-held found b
-    unfolding try-held granted unheld can-make collecting
-    try-granted a t p e n q = simp (n, grant-entry t n (refused-alone e), lt-ltb (b .state .«hold_register») 8 (grant-register t n (refused-alone e)), eq-eqb (b .state .phase) 0 p, q)
+    pub try-granted : b .state .held ≡ true → b .state .phase ≡ 0 → end-refused (bare (b .state)) ≡ false → no-room (b .state .«hold_size») b ≡ false → reply (granted b) 32 ≡ try-held found b
+    unfolding try-held can-make collecting
+    try-granted t p e n = simp (n, grant-entry t n (refused-alone e), lt-ltb (b .state .«hold_register») 8 (grant-register t n (refused-alone e)), eq-eqb (b .state .phase) 0 p)
 
     -- ---- the end
     pub end-held : (r : Reply) → b .state .held ≡ true → r ≡ try-held found (resting b) → r ≡ end-cycle found b

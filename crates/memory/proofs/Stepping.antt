@@ -1,10 +1,14 @@
 -- One step: where the sizes are right it is the rule of the phase, and else 9. By computing the definitions. Assumes nothing.
-use Prim.Native.Nat.{ℕ, _≤_}
+use Prim.Native.Nat.{ℕ, _+_, _<_, _≤_}
 use mathlib.Core.Bool.{Bool, true, false}
 use mathlib.Core.Path.{_≡_, sym, ap, _∙_}
 use native.Mathlib.Omega.{arith}
-use Rattle.memory.specs.Box.{Box, Reply, reply, sound}
-use Rattle.memory.specs.Collector.{rule-of, step}
+use Rattle.memory.specs.State.{with-held}
+use Rattle.memory.specs.Box.{Box, Reply, reply, with-state, sound}
+use Rattle.memory.specs.Request.{new-tuple}
+use Rattle.memory.specs.Collector.{granted, unheld, rule-of, step}
+use Rattle.memory.specs.Decide.{with-grant}
+use Rattle.memory.proofs.Granting.{ungranted}
 
 -- the phase that is left when the others are set aside
 pub left-three : (p : ℕ) → p ≤ 3 → (p ≡ 0 → ⊥) → (p ≡ 1 → ⊥) → (p ≡ 2 → ⊥) → p ≡ 3
@@ -13,13 +17,32 @@ left-three p o n0 n1 n2 = omega arith
 pub left-eight : (p : ℕ) → 4 ≤ p → p ≤ 8 → (p ≡ 4 → ⊥) → (p ≡ 5 → ⊥) → (p ≡ 6 → ⊥) → (p ≡ 7 → ⊥) → p ≡ 8
 left-eight p l o n4 n5 n6 n7 = omega arith
 
+-- a bound of one number is one of its equal
+pub lt-same : (x y k : ℕ) → x ≡ y → y < k → x < k
+lt-same x y k e o = omega arith
+
+pub le-same : (x y k : ℕ) → x ≡ y → y ≤ k → x ≤ k
+le-same x y k e o = omega arith
+
+pub below-same : (k x y : ℕ) → x ≡ y → k < y → k < x
+below-same k x y e o = omega arith
+
+pub within-same : (k x y : ℕ) → x ≡ y → k ≤ y → k ≤ x
+within-same k x y e o = omega arith
+
 module _ (b : Box) where
   pub rule-at : (k : ℕ) (x : Reply) → b .state .phase ≡ k → x ≡ rule-of k b → x ≡ rule-of (b .state .phase) b
   rule-at k x z q = q ∙ sym (ap (λ (p : ℕ). rule-of p b) z)
 
-  pub step-sound : (x : Reply) → sound b ≡ true → x ≡ rule-of (b .state .phase) b → x ≡ step b
+  -- the rule's reply t and n, where the held request is not granted
+  pub step-plain : (t : Box) (n : ℕ) → (n ≡ 32 → ⊥) → sound b ≡ true → with-grant (reply t n) ≡ rule-of (b .state .phase) b → reply t n ≡ step b
   unfolding step
-  step-sound x t q = simp (t, q)
+  step-plain t n z e q = sym (ungranted t n z) ∙ simp (e, q)
+
+  -- and where it is, with its tuple made
+  pub step-granted : (t a : Box) (n : ℕ) → n ≡ 32 → sound b ≡ true → with-grant (reply t n) ≡ rule-of (b .state .phase) b → a ≡ new-tuple (t .state .«hold_register») (t .state .«hold_size») (t .state .«hold_tag») t → reply (with-state (with-held false (a .state)) a) 32 ≡ step b
+  unfolding step with-grant granted unheld
+  step-granted t a n z e q p = simp (e, ← q, z, p)
 
   pub step-refused : sound b ≡ false → reply b 9 ≡ step b
   unfolding step

@@ -1,18 +1,28 @@
 -- What a step decides before it writes anything. Each of these is a part of a rule of specs/Collector.antt, said by itself;
 -- that it decides that rule is proved with the code.
-use Prim.Native.Nat.{ℕ}
+use Prim.Native.Nat.{ℕ, _+_, _<_, _≤_}
 use mathlib.Core.Bool.{Bool, not, cond, _&&_, _||_}
 use lib.Dec.{leb, ltb, eqb}
 use Rattle.memory.specs.Limits.{register-count}
 use Rattle.memory.specs.State.{with-top}
-use Rattle.memory.specs.Box.{Box, with-state, handle-of, names-tuple, register, marked, is-entry}
+use mathlib.Core.Path.{_≡_}
+use Rattle.memory.specs.declared.state.State.{State}
+use Rattle.memory.specs.Box.{Box, Reply, reply, with-state, handle-of, names-tuple, register, marked, is-entry}
 use Rattle.memory.specs.Request.{is-register, no-room}
-use Rattle.memory.specs.Collector.{Found, unmarked, damaged, nothing, after}
+use Rattle.memory.specs.Collector.{Found, unmarked, damaged, nothing, after, granted}
 
 -- the end of a cycle is refused: the held request would be granted, and its register or the free handle is wrong
 unfoldable pub end-refused : Box → Bool
 end-refused b =
     b .state .held && not (no-room (b .state .«hold_size») b) && not (is-register (b .state .«hold_register») && is-entry (b .state .free) b)
+
+-- a phase that grants the held request leaves the tuple itself to the step: what is left when the step has made it
+unfoldable pub with-grant : Reply → Reply
+with-grant r = cond (eqb (r .answer) 32) (reply (granted (r .box)) 32) r
+
+-- where the answer is 32, the state is at Rest and its hold can be granted in a box of m words and h entries
+abbrev pub Grants : ℕ → ℕ → State → ℕ → Type 0
+Grants m h s a = a ≡ 32 → (s .m ≡ m) × (s .h ≡ h) × (s .phase ≡ 0) × (s .free < h) × (s .«hold_register» < 8) × (s .top + s .«hold_size» + 1 ≤ m)
 
 -- the sweep can leave its tuple: what is behind it is in memory, or it is the last and the end of the cycle is not refused
 unfoldable pub can-leave : Box → Bool

@@ -9,7 +9,7 @@ ghost use lib.ListN.{length};
 ghost use Rattle.memory.specs.Box.{Box, reply};
 ghost use Rattle.memory.specs.Boxed.{boxed};
 ghost use Rattle.memory.specs.Collector.{leave-tuple, finish-move, copy-word, sweep-read, sweep-clear, sweep-write, zero-word, sweep-zero};
-ghost use Rattle.memory.specs.Decide.{can-leave};
+ghost use Rattle.memory.specs.Decide.{can-leave, with-grant, Grants};
 
 impl State {
     // Whether the sweep can leave its tuple: what is behind it is in memory, or it is the last and the end of the cycle is not
@@ -35,23 +35,15 @@ impl State {
 
     // Behind the tuple: at top, top is dest and the cycle ends, and else the sweep goes on in phase 4. Answers 30, or what the
     // end of the cycle gives.
-    fn leave_tuple(
-        mut self,
-        words: &mut [u32],
-        flags: &mut [bool],
-        addresses: &mut [u32],
-        sizes: &mut [u32],
-        links: &[u32],
-        marks: &mut [bool],
-        deeps: &mut [bool],
-    ) -> Answered
-        requires { ⌜ (length (now words) ≡ self .m) × (length (now flags) ≡ self .m) × (length (now addresses) ≡ self .h) × (length (now sizes) ≡ self .h) × (length (now links) ≡ self .h) × (length (now marks) ≡ self .h) × (length (now deeps) ≡ self .h) × (self .m < 65536) × (self .h ≤ 4096) × (can-leave (boxed [] [] [] [] [] [] [] self) ≡ true) ⌝ }
-        ensures { λ r. ⌜ ((found : Box) → reply (boxed (now (words .exit)) (now (flags .exit)) (now (addresses .exit)) (now (sizes .exit)) (now (links .entry)) (now (marks .exit)) (now (deeps .exit)) (r .state)) (r .answer) ≡ leave-tuple found (boxed (now (words .entry)) (now (flags .entry)) (now (addresses .entry)) (now (sizes .entry)) (now (links .entry)) (now (marks .entry)) (now (deeps .entry)) self)) ⌝ }
+    fn leave_tuple(mut self, words: &[u32], flags: &[bool]) -> Answered
+        requires { ⌜ (length (now words) ≡ self .m) × (length (now flags) ≡ self .m) × (self .m < 65536) × (can-leave (boxed [] [] [] [] [] [] [] self) ≡ true) ⌝ }
+        ensures { λ r. ⌜ ((found : Box) (ads ss ls : List ℕ) (ms ds : List Bool) → with-grant (reply (boxed (now (words .entry)) (now (flags .entry)) ads ss ls ms ds (r .state)) (r .answer)) ≡ leave-tuple found (boxed (now (words .entry)) (now (flags .entry)) ads ss ls ms ds self)) ⌝ }
+        ensures { λ r. ⌜ Grants (self .m) (self .h) (r .state) (r .answer) ⌝ }
     {
         let after = self.src + self.size + 1;
         if after == self.top {
             self.top = self.dest;
-            return self.end_cycle(words, flags, addresses, sizes, links, marks, deeps);
+            return self.end_cycle();
         }
         let state = self.go_on(after, words, flags);
         Answered { state, answer: 30 }
@@ -59,18 +51,10 @@ impl State {
 
     // The tuple has been moved: the address in its entry is dest, dest grows by size + 1, and the sweep leaves the tuple.
     // Answers 30, what the end of the cycle gives, or 9.
-    fn finish_move(
-        self,
-        words: &mut [u32],
-        flags: &mut [bool],
-        addresses: &mut [u32],
-        sizes: &mut [u32],
-        links: &[u32],
-        marks: &mut [bool],
-        deeps: &mut [bool],
-    ) -> Answered
-        requires { ⌜ (length (now words) ≡ self .m) × (length (now flags) ≡ self .m) × (length (now addresses) ≡ self .h) × (length (now sizes) ≡ self .h) × (length (now links) ≡ self .h) × (length (now marks) ≡ self .h) × (length (now deeps) ≡ self .h) × (self .m < 65536) × (self .h ≤ 4096) ⌝ }
-        ensures { λ r. ⌜ reply (boxed (now (words .exit)) (now (flags .exit)) (now (addresses .exit)) (now (sizes .exit)) (now (links .entry)) (now (marks .exit)) (now (deeps .exit)) (r .state)) (r .answer) ≡ finish-move (boxed (now (words .entry)) (now (flags .entry)) (now (addresses .entry)) (now (sizes .entry)) (now (links .entry)) (now (marks .entry)) (now (deeps .entry)) self) ⌝ }
+    fn finish_move(self, words: &[u32], flags: &[bool], addresses: &mut [u32]) -> Answered
+        requires { ⌜ (length (now words) ≡ self .m) × (length (now flags) ≡ self .m) × (length (now addresses) ≡ self .h) × (self .m < 65536) ⌝ }
+        ensures { λ r. ⌜ ((ss ls : List ℕ) (ms ds : List Bool) → with-grant (reply (boxed (now (words .entry)) (now (flags .entry)) (now (addresses .exit)) ss ls ms ds (r .state)) (r .answer)) ≡ finish-move (boxed (now (words .entry)) (now (flags .entry)) (now (addresses .entry)) ss ls ms ds self)) ⌝ }
+        ensures { λ r. ⌜ Grants (self .m) (self .h) (r .state) (r .answer) ⌝ }
     {
         let h = self.tuple;
         let dest = self.dest;
@@ -82,7 +66,7 @@ impl State {
                 if state.can_leave() {
                     let i = h as usize;
                     addresses[i] = dest;
-                    return state.leave_tuple(words, flags, addresses, sizes, links, marks, deeps);
+                    return state.leave_tuple(words, flags);
                 }
             }
         }
@@ -110,23 +94,15 @@ impl State {
 
     // Phase 5, Sweep read: one word of the tuple goes to the copy register, or behind its last word the move is finished. Answers
     // 30, what the end of the cycle gives, or 9.
-    pub(crate) fn sweep_read(
-        self,
-        words: &mut [u32],
-        flags: &mut [bool],
-        addresses: &mut [u32],
-        sizes: &mut [u32],
-        links: &[u32],
-        marks: &mut [bool],
-        deeps: &mut [bool],
-    ) -> Answered
-        requires { ⌜ (length (now words) ≡ self .m) × (length (now flags) ≡ self .m) × (length (now addresses) ≡ self .h) × (length (now sizes) ≡ self .h) × (length (now links) ≡ self .h) × (length (now marks) ≡ self .h) × (length (now deeps) ≡ self .h) × (self .m < 65536) × (self .h ≤ 4096) ⌝ }
-        ensures { λ r. ⌜ reply (boxed (now (words .exit)) (now (flags .exit)) (now (addresses .exit)) (now (sizes .exit)) (now (links .entry)) (now (marks .exit)) (now (deeps .exit)) (r .state)) (r .answer) ≡ sweep-read (boxed (now (words .entry)) (now (flags .entry)) (now (addresses .entry)) (now (sizes .entry)) (now (links .entry)) (now (marks .entry)) (now (deeps .entry)) self) ⌝ }
+    pub(crate) fn sweep_read(self, words: &[u32], flags: &[bool], addresses: &mut [u32]) -> Answered
+        requires { ⌜ (length (now words) ≡ self .m) × (length (now flags) ≡ self .m) × (length (now addresses) ≡ self .h) × (self .m < 65536) ⌝ }
+        ensures { λ r. ⌜ ((ss ls : List ℕ) (ms ds : List Bool) → with-grant (reply (boxed (now (words .entry)) (now (flags .entry)) (now (addresses .exit)) ss ls ms ds (r .state)) (r .answer)) ≡ sweep-read (boxed (now (words .entry)) (now (flags .entry)) (now (addresses .entry)) ss ls ms ds self)) ⌝ }
+        ensures { λ r. ⌜ Grants (self .m) (self .h) (r .state) (r .answer) ⌝ }
     {
         let src = self.src;
         let index = self.index;
         if self.size < index {
-            return self.finish_move(words, flags, addresses, sizes, links, marks, deeps);
+            return self.finish_move(words, flags, addresses);
         }
         if self.reaches(src, index) {
             let state = self.copy_word(src + index, words, flags);
@@ -200,24 +176,16 @@ impl State {
 
     // Phase 8, Sweep zero: one word of a released tuple becomes data 0, or behind its last word the sweep leaves it. Answers 30,
     // what the end of the cycle gives, or 9.
-    pub(crate) fn sweep_zero(
-        self,
-        words: &mut [u32],
-        flags: &mut [bool],
-        addresses: &mut [u32],
-        sizes: &mut [u32],
-        links: &[u32],
-        marks: &mut [bool],
-        deeps: &mut [bool],
-    ) -> Answered
-        requires { ⌜ (length (now words) ≡ self .m) × (length (now flags) ≡ self .m) × (length (now addresses) ≡ self .h) × (length (now sizes) ≡ self .h) × (length (now links) ≡ self .h) × (length (now marks) ≡ self .h) × (length (now deeps) ≡ self .h) × (self .m < 65536) × (self .h ≤ 4096) ⌝ }
-        ensures { λ r. ⌜ reply (boxed (now (words .exit)) (now (flags .exit)) (now (addresses .exit)) (now (sizes .exit)) (now (links .entry)) (now (marks .exit)) (now (deeps .exit)) (r .state)) (r .answer) ≡ sweep-zero (boxed (now (words .entry)) (now (flags .entry)) (now (addresses .entry)) (now (sizes .entry)) (now (links .entry)) (now (marks .entry)) (now (deeps .entry)) self) ⌝ }
+    pub(crate) fn sweep_zero(self, words: &mut [u32], flags: &mut [bool]) -> Answered
+        requires { ⌜ (length (now words) ≡ self .m) × (length (now flags) ≡ self .m) × (self .m < 65536) ⌝ }
+        ensures { λ r. ⌜ ((ads ss ls : List ℕ) (ms ds : List Bool) → with-grant (reply (boxed (now (words .exit)) (now (flags .exit)) ads ss ls ms ds (r .state)) (r .answer)) ≡ sweep-zero (boxed (now (words .entry)) (now (flags .entry)) ads ss ls ms ds self)) ⌝ }
+        ensures { λ r. ⌜ Grants (self .m) (self .h) (r .state) (r .answer) ⌝ }
     {
         let src = self.src;
         let index = self.index;
         if self.size < index {
             if self.can_leave() {
-                return self.leave_tuple(words, flags, addresses, sizes, links, marks, deeps);
+                return self.leave_tuple(words, flags);
             }
             return Answered {
                 state: self,

@@ -11,7 +11,7 @@ ghost use Rattle.memory.specs.Limits.{register-count};
 ghost use Rattle.memory.specs.Box.{reply};
 ghost use Rattle.memory.specs.Boxed.{boxed};
 ghost use Rattle.memory.specs.Collector.{look-from, mark-root, end-marking, mark-next};
-ghost use Rattle.memory.specs.Decide.{passed-over, found-at};
+ghost use Rattle.memory.specs.Decide.{passed-over, found-at, with-grant, Grants};
 
 impl State {
     // Whether register r is passed over: it holds data or nil, or names a marked tuple.
@@ -49,18 +49,10 @@ impl State {
 
     // Marking is over: with top 0 the cycle ends, and else the sweep begins at word 0. Answers 30, what the end of the cycle
     // gives, or 9 where that end is refused.
-    fn end_marking(
-        mut self,
-        words: &mut [u32],
-        flags: &mut [bool],
-        addresses: &mut [u32],
-        sizes: &mut [u32],
-        links: &[u32],
-        marks: &mut [bool],
-        deeps: &mut [bool],
-    ) -> Answered
-        requires { ⌜ (length (now words) ≡ self .m) × (length (now flags) ≡ self .m) × (length (now addresses) ≡ self .h) × (length (now sizes) ≡ self .h) × (length (now links) ≡ self .h) × (length (now marks) ≡ self .h) × (length (now deeps) ≡ self .h) × (self .m < 65536) × (0 < self .m) × (self .h ≤ 4096) ⌝ }
-        ensures { λ r. ⌜ reply (boxed (now (words .exit)) (now (flags .exit)) (now (addresses .exit)) (now (sizes .exit)) (now (links .entry)) (now (marks .exit)) (now (deeps .exit)) (r .state)) (r .answer) ≡ end-marking (boxed (now (words .entry)) (now (flags .entry)) (now (addresses .entry)) (now (sizes .entry)) (now (links .entry)) (now (marks .entry)) (now (deeps .entry)) self) ⌝ }
+    fn end_marking(mut self, words: &[u32], flags: &[bool]) -> Answered
+        requires { ⌜ (length (now words) ≡ self .m) × (length (now flags) ≡ self .m) × (0 < self .m) ⌝ }
+        ensures { λ r. ⌜ ((ads ss ls : List ℕ) (ms ds : List Bool) → with-grant (reply (boxed (now (words .entry)) (now (flags .entry)) ads ss ls ms ds (r .state)) (r .answer)) ≡ end-marking (boxed (now (words .entry)) (now (flags .entry)) ads ss ls ms ds self)) ⌝ }
+        ensures { λ r. ⌜ Grants (self .m) (self .h) (r .state) (r .answer) ⌝ }
     {
         if self.top == 0 {
             if self.end_refused() {
@@ -69,7 +61,7 @@ impl State {
                     answer: 9,
                 };
             }
-            return self.end_cycle(words, flags, addresses, sizes, links, marks, deeps);
+            return self.end_cycle();
         }
         let word = Word {
             bits: words[0],
@@ -89,20 +81,20 @@ impl State {
     // register on the way names no entry or its tuple can't be shaded.
     fn mark_root(
         self,
-        words: &mut [u32],
-        flags: &mut [bool],
-        addresses: &mut [u32],
-        sizes: &mut [u32],
+        words: &[u32],
+        flags: &[bool],
+        sizes: &[u32],
         links: &mut [u32],
         marks: &mut [bool],
-        deeps: &mut [bool],
+        deeps: &[bool],
     ) -> Answered
-        requires { ⌜ (length (now words) ≡ self .m) × (length (now flags) ≡ self .m) × (length (now addresses) ≡ self .h) × (length (now sizes) ≡ self .h) × (length (now links) ≡ self .h) × (length (now marks) ≡ self .h) × (length (now deeps) ≡ self .h) × (self .m < 65536) × (0 < self .m) × (self .h ≤ 4096) ⌝ }
-        ensures { λ r. ⌜ reply (boxed (now (words .exit)) (now (flags .exit)) (now (addresses .exit)) (now (sizes .exit)) (now (links .exit)) (now (marks .exit)) (now (deeps .exit)) (r .state)) (r .answer) ≡ mark-root (look-from register-count (boxed (now (words .entry)) (now (flags .entry)) (now (addresses .entry)) (now (sizes .entry)) (now (links .entry)) (now (marks .entry)) (now (deeps .entry)) self)) (boxed (now (words .entry)) (now (flags .entry)) (now (addresses .entry)) (now (sizes .entry)) (now (links .entry)) (now (marks .entry)) (now (deeps .entry)) self) ⌝ }
+        requires { ⌜ (length (now words) ≡ self .m) × (length (now flags) ≡ self .m) × (length (now sizes) ≡ self .h) × (length (now links) ≡ self .h) × (length (now marks) ≡ self .h) × (length (now deeps) ≡ self .h) × (self .m < 65536) × (0 < self .m) ⌝ }
+        ensures { λ r. ⌜ ((ads : List ℕ) → with-grant (reply (boxed (now (words .entry)) (now (flags .entry)) ads (now (sizes .entry)) (now (links .exit)) (now (marks .exit)) (now (deeps .entry)) (r .state)) (r .answer)) ≡ mark-root (look-from register-count (boxed (now (words .entry)) (now (flags .entry)) ads (now (sizes .entry)) (now (links .entry)) (now (marks .entry)) (now (deeps .entry)) self)) (boxed (now (words .entry)) (now (flags .entry)) ads (now (sizes .entry)) (now (links .entry)) (now (marks .entry)) (now (deeps .entry)) self)) ⌝ }
+        ensures { λ r. ⌜ Grants (self .m) (self .h) (r .state) (r .answer) ⌝ }
     {
         let r = self.look(marks);
         if r == 8 {
-            return self.end_marking(words, flags, addresses, sizes, links, marks, deeps);
+            return self.end_marking(words, flags);
         }
         let h = self.register(r).handle();
         if self.can_shade(h, sizes, marks) {
@@ -119,19 +111,20 @@ impl State {
     // 30, what the end of the cycle gives, or 9.
     pub(crate) fn mark_next(
         self,
-        words: &mut [u32],
-        flags: &mut [bool],
-        addresses: &mut [u32],
-        sizes: &mut [u32],
+        words: &[u32],
+        flags: &[bool],
+        addresses: &[u32],
+        sizes: &[u32],
         links: &mut [u32],
         marks: &mut [bool],
-        deeps: &mut [bool],
+        deeps: &[bool],
     ) -> Answered
-        requires { ⌜ (length (now words) ≡ self .m) × (length (now flags) ≡ self .m) × (length (now addresses) ≡ self .h) × (length (now sizes) ≡ self .h) × (length (now links) ≡ self .h) × (length (now marks) ≡ self .h) × (length (now deeps) ≡ self .h) × (self .m < 65536) × (0 < self .m) × (self .h ≤ 4096) ⌝ }
-        ensures { λ r. ⌜ reply (boxed (now (words .exit)) (now (flags .exit)) (now (addresses .exit)) (now (sizes .exit)) (now (links .exit)) (now (marks .exit)) (now (deeps .exit)) (r .state)) (r .answer) ≡ mark-next (boxed (now (words .entry)) (now (flags .entry)) (now (addresses .entry)) (now (sizes .entry)) (now (links .entry)) (now (marks .entry)) (now (deeps .entry)) self) ⌝ }
+        requires { ⌜ (length (now words) ≡ self .m) × (length (now flags) ≡ self .m) × (length (now addresses) ≡ self .h) × (length (now sizes) ≡ self .h) × (length (now links) ≡ self .h) × (length (now marks) ≡ self .h) × (length (now deeps) ≡ self .h) × (self .m < 65536) × (0 < self .m) ⌝ }
+        ensures { λ r. ⌜ with-grant (reply (boxed (now (words .entry)) (now (flags .entry)) (now (addresses .entry)) (now (sizes .entry)) (now (links .exit)) (now (marks .exit)) (now (deeps .entry)) (r .state)) (r .answer)) ≡ mark-next (boxed (now (words .entry)) (now (flags .entry)) (now (addresses .entry)) (now (sizes .entry)) (now (links .entry)) (now (marks .entry)) (now (deeps .entry)) self) ⌝ }
+        ensures { λ r. ⌜ Grants (self .m) (self .h) (r .state) (r .answer) ⌝ }
     {
         if self.next == 0 {
-            return self.mark_root(words, flags, addresses, sizes, links, marks, deeps);
+            return self.mark_root(words, flags, sizes, links, marks, deeps);
         }
         self.scan_next(addresses, sizes, links)
     }

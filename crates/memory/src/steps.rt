@@ -9,21 +9,23 @@ ghost use lib.ListN.{length};
 ghost use Rattle.memory.specs.Box.{reply};
 ghost use Rattle.memory.specs.Boxed.{boxed};
 ghost use Rattle.memory.specs.Collector.{rule-of, step};
+ghost use Rattle.memory.specs.Decide.{with-grant, Grants};
 
 impl State {
     // The rule of a phase that marks, 0 to 3.
     fn mark_rule(
         self,
-        words: &mut [u32],
-        flags: &mut [bool],
-        addresses: &mut [u32],
-        sizes: &mut [u32],
+        words: &[u32],
+        flags: &[bool],
+        addresses: &[u32],
+        sizes: &[u32],
         links: &mut [u32],
         marks: &mut [bool],
-        deeps: &mut [bool],
+        deeps: &[bool],
     ) -> Answered
-        requires { ⌜ (length (now words) ≡ self .m) × (length (now flags) ≡ self .m) × (length (now addresses) ≡ self .h) × (length (now sizes) ≡ self .h) × (length (now links) ≡ self .h) × (length (now marks) ≡ self .h) × (length (now deeps) ≡ self .h) × (self .m < 65536) × (0 < self .m) × (self .h ≤ 4096) × (self .phase ≤ 3) ⌝ }
-        ensures { λ r. ⌜ reply (boxed (now (words .exit)) (now (flags .exit)) (now (addresses .exit)) (now (sizes .exit)) (now (links .exit)) (now (marks .exit)) (now (deeps .exit)) (r .state)) (r .answer) ≡ rule-of (self .phase) (boxed (now (words .entry)) (now (flags .entry)) (now (addresses .entry)) (now (sizes .entry)) (now (links .entry)) (now (marks .entry)) (now (deeps .entry)) self) ⌝ }
+        requires { ⌜ (length (now words) ≡ self .m) × (length (now flags) ≡ self .m) × (length (now addresses) ≡ self .h) × (length (now sizes) ≡ self .h) × (length (now links) ≡ self .h) × (length (now marks) ≡ self .h) × (length (now deeps) ≡ self .h) × (self .m < 65536) × (0 < self .m) × (self .phase ≤ 3) ⌝ }
+        ensures { λ r. ⌜ with-grant (reply (boxed (now (words .entry)) (now (flags .entry)) (now (addresses .entry)) (now (sizes .entry)) (now (links .exit)) (now (marks .exit)) (now (deeps .entry)) (r .state)) (r .answer)) ≡ rule-of (self .phase) (boxed (now (words .entry)) (now (flags .entry)) (now (addresses .entry)) (now (sizes .entry)) (now (links .entry)) (now (marks .entry)) (now (deeps .entry)) self) ⌝ }
+        ensures { λ r. ⌜ Grants (self .m) (self .h) (r .state) (r .answer) ⌝ }
     {
         let phase = self.phase;
         if phase == 0 {
@@ -38,26 +40,30 @@ impl State {
         self.mark_add(sizes, links, marks, deeps)
     }
 
-    // The rule of a phase that sweeps, 4 to 8.
-    fn sweep_rule(
+    // The rule of the phase, 0 to 8. Where it answers 32 the held request is granted, and its tuple is still to be made.
+    fn rule(
         self,
         words: &mut [u32],
         flags: &mut [bool],
         addresses: &mut [u32],
-        sizes: &mut [u32],
+        sizes: &[u32],
         links: &mut [u32],
         marks: &mut [bool],
-        deeps: &mut [bool],
+        deeps: &[bool],
     ) -> Answered
-        requires { ⌜ (length (now words) ≡ self .m) × (length (now flags) ≡ self .m) × (length (now addresses) ≡ self .h) × (length (now sizes) ≡ self .h) × (length (now links) ≡ self .h) × (length (now marks) ≡ self .h) × (length (now deeps) ≡ self .h) × (self .m < 65536) × (0 < self .m) × (self .h ≤ 4096) × (4 ≤ self .phase) × (self .phase ≤ 8) ⌝ }
-        ensures { λ r. ⌜ reply (boxed (now (words .exit)) (now (flags .exit)) (now (addresses .exit)) (now (sizes .exit)) (now (links .exit)) (now (marks .exit)) (now (deeps .exit)) (r .state)) (r .answer) ≡ rule-of (self .phase) (boxed (now (words .entry)) (now (flags .entry)) (now (addresses .entry)) (now (sizes .entry)) (now (links .entry)) (now (marks .entry)) (now (deeps .entry)) self) ⌝ }
+        requires { ⌜ (length (now words) ≡ self .m) × (length (now flags) ≡ self .m) × (length (now addresses) ≡ self .h) × (length (now sizes) ≡ self .h) × (length (now links) ≡ self .h) × (length (now marks) ≡ self .h) × (length (now deeps) ≡ self .h) × (self .m < 65536) × (0 < self .m) × (self .phase ≤ 8) ⌝ }
+        ensures { λ r. ⌜ with-grant (reply (boxed (now (words .exit)) (now (flags .exit)) (now (addresses .exit)) (now (sizes .entry)) (now (links .exit)) (now (marks .exit)) (now (deeps .entry)) (r .state)) (r .answer)) ≡ rule-of (self .phase) (boxed (now (words .entry)) (now (flags .entry)) (now (addresses .entry)) (now (sizes .entry)) (now (links .entry)) (now (marks .entry)) (now (deeps .entry)) self) ⌝ }
+        ensures { λ r. ⌜ Grants (self .m) (self .h) (r .state) (r .answer) ⌝ }
     {
         let phase = self.phase;
+        if phase < 4 {
+            return self.mark_rule(words, flags, addresses, sizes, links, marks, deeps);
+        }
         if phase == 4 {
-            return self.sweep_scan(words, flags, addresses, sizes, links, marks, deeps);
+            return self.sweep_scan(words, flags, sizes, links, marks);
         }
         if phase == 5 {
-            return self.sweep_read(words, flags, addresses, sizes, links, marks, deeps);
+            return self.sweep_read(words, flags, addresses);
         }
         if phase == 6 {
             return self.sweep_clear(words, flags);
@@ -65,7 +71,7 @@ impl State {
         if phase == 7 {
             return self.sweep_write(words, flags);
         }
-        self.sweep_zero(words, flags, addresses, sizes, links, marks, deeps)
+        self.sweep_zero(words, flags)
     }
 }
 
@@ -84,10 +90,29 @@ pub fn step(
     ensures { λ r. ⌜ reply (boxed (now (words .exit)) (now (flags .exit)) (now (addresses .exit)) (now (sizes .exit)) (now (links .exit)) (now (marks .exit)) (now (deeps .exit)) (r .state)) (r .answer) ≡ step (boxed (now (words .entry)) (now (flags .entry)) (now (addresses .entry)) (now (sizes .entry)) (now (links .entry)) (now (marks .entry)) (now (deeps .entry)) s) ⌝ }
 {
     if sound(s, words, flags, addresses, sizes, links, marks, deeps) {
-        if s.phase < 4 {
-            return s.mark_rule(words, flags, addresses, sizes, links, marks, deeps);
+        let done = s.rule(words, flags, addresses, sizes, links, marks, deeps);
+        let answer = done.answer;
+        let held = done.state;
+        if answer == 32 {
+            let r = held.hold_register;
+            let n = held.hold_size;
+            let tag = held.hold_tag;
+            let mut state = held.new_tuple(
+                r,
+                n,
+                tag,
+                words,
+                flags,
+                addresses,
+                sizes,
+                links,
+                marks,
+                deeps,
+            );
+            state.held = false;
+            return Answered { state, answer: 32 };
         }
-        return s.sweep_rule(words, flags, addresses, sizes, links, marks, deeps);
+        return done;
     }
     Answered {
         state: s,

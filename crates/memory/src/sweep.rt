@@ -11,6 +11,7 @@ ghost use Rattle.memory.specs.State.{with-size};
 ghost use Rattle.memory.specs.Box.{reply};
 ghost use Rattle.memory.specs.Boxed.{boxed};
 ghost use Rattle.memory.specs.Collector.{go-on, start-zero, keep-in-place, release, sweep-tuple, sweep-scan};
+ghost use Rattle.memory.specs.Decide.{with-grant, Grants};
 
 impl State {
     // The sweep goes on in phase 4 with the tuple at address a, whose handle is there.
@@ -49,16 +50,13 @@ impl State {
     fn keep_in_place(
         mut self,
         size: u32,
-        words: &mut [u32],
-        flags: &mut [bool],
-        addresses: &mut [u32],
-        sizes: &mut [u32],
-        links: &[u32],
+        words: &[u32],
+        flags: &[bool],
         marks: &mut [bool],
-        deeps: &mut [bool],
     ) -> Answered
-        requires { ⌜ (length (now words) ≡ self .m) × (length (now flags) ≡ self .m) × (length (now addresses) ≡ self .h) × (length (now sizes) ≡ self .h) × (length (now links) ≡ self .h) × (length (now marks) ≡ self .h) × (length (now deeps) ≡ self .h) × (self .m < 65536) × (self .h ≤ 4096) × (self .tuple < self .h) × (self .src + size + 1 ≤ self .m) ⌝ }
-        ensures { λ r. ⌜ reply (boxed (now (words .exit)) (now (flags .exit)) (now (addresses .exit)) (now (sizes .exit)) (now (links .entry)) (now (marks .exit)) (now (deeps .exit)) (r .state)) (r .answer) ≡ keep-in-place (boxed (now (words .entry)) (now (flags .entry)) (now (addresses .entry)) (now (sizes .entry)) (now (links .entry)) (now (marks .entry)) (now (deeps .entry)) self) (boxed (now (words .entry)) (now (flags .entry)) (now (addresses .entry)) (now (sizes .entry)) (now (links .entry)) (now (marks .entry)) (now (deeps .entry)) (with-size size self)) ⌝ }
+        requires { ⌜ (length (now words) ≡ self .m) × (length (now flags) ≡ self .m) × (length (now marks) ≡ self .h) × (self .m < 65536) × (self .tuple < self .h) × (self .src + size + 1 ≤ self .m) ⌝ }
+        ensures { λ r. ⌜ ((ads ss ls : List ℕ) (ds : List Bool) → with-grant (reply (boxed (now (words .entry)) (now (flags .entry)) ads ss ls (now (marks .exit)) ds (r .state)) (r .answer)) ≡ keep-in-place (boxed (now (words .entry)) (now (flags .entry)) ads ss ls (now (marks .entry)) ds self) (boxed (now (words .entry)) (now (flags .entry)) ads ss ls (now (marks .entry)) ds (with-size size self))) ⌝ }
+        ensures { λ r. ⌜ Grants (self .m) (self .h) (r .state) (r .answer) ⌝ }
     {
         let i = self.tuple as usize;
         let after = self.src + size + 1;
@@ -69,9 +67,10 @@ impl State {
                     answer: 9,
                 };
             }
-            marks[i] = false;
+            let last = self.tuple as usize;
+            marks[last] = false;
             self.size = size;
-            return self.end_cycle(words, flags, addresses, sizes, links, marks, deeps);
+            return self.end_cycle();
         }
         if after < self.m {
             marks[i] = false;
@@ -121,32 +120,21 @@ impl State {
     fn sweep_tuple(
         mut self,
         size: u32,
-        words: &mut [u32],
-        flags: &mut [bool],
-        addresses: &mut [u32],
-        sizes: &mut [u32],
+        words: &[u32],
+        flags: &[bool],
         links: &mut [u32],
         marks: &mut [bool],
-        deeps: &mut [bool],
     ) -> Answered
-        requires { ⌜ (length (now words) ≡ self .m) × (length (now flags) ≡ self .m) × (length (now addresses) ≡ self .h) × (length (now sizes) ≡ self .h) × (length (now links) ≡ self .h) × (length (now marks) ≡ self .h) × (length (now deeps) ≡ self .h) × (self .m < 65536) × (self .h ≤ 4096) × (self .tuple < self .h) ⌝ }
-        ensures { λ r. ⌜ reply (boxed (now (words .exit)) (now (flags .exit)) (now (addresses .exit)) (now (sizes .exit)) (now (links .exit)) (now (marks .exit)) (now (deeps .exit)) (r .state)) (r .answer) ≡ sweep-tuple (boxed (now (words .entry)) (now (flags .entry)) (now (addresses .entry)) (now (sizes .entry)) (now (links .entry)) (now (marks .entry)) (now (deeps .entry)) self) (boxed (now (words .entry)) (now (flags .entry)) (now (addresses .entry)) (now (sizes .entry)) (now (links .entry)) (now (marks .entry)) (now (deeps .entry)) (with-size size self)) ⌝ }
+        requires { ⌜ (length (now words) ≡ self .m) × (length (now flags) ≡ self .m) × (length (now links) ≡ self .h) × (length (now marks) ≡ self .h) × (self .m < 65536) × (self .tuple < self .h) ⌝ }
+        ensures { λ r. ⌜ ((ads ss : List ℕ) (ds : List Bool) → with-grant (reply (boxed (now (words .entry)) (now (flags .entry)) ads ss (now (links .exit)) (now (marks .exit)) ds (r .state)) (r .answer)) ≡ sweep-tuple (boxed (now (words .entry)) (now (flags .entry)) ads ss (now (links .entry)) (now (marks .entry)) ds self) (boxed (now (words .entry)) (now (flags .entry)) ads ss (now (links .entry)) (now (marks .entry)) ds (with-size size self))) ⌝ }
+        ensures { λ r. ⌜ Grants (self .m) (self .h) (r .state) (r .answer) ⌝ }
     {
         let src = self.src;
         let i = self.tuple as usize;
         if self.reaches(src, size) {
             if marks[i] {
                 if src == self.dest {
-                    return self.keep_in_place(
-                        size,
-                        words,
-                        flags,
-                        addresses,
-                        sizes,
-                        links,
-                        marks,
-                        deeps,
-                    );
+                    return self.keep_in_place(size, words, flags, marks);
                 }
                 marks[i] = false;
                 self.size = size;
@@ -169,22 +157,21 @@ impl State {
     // cycle gives, or 9.
     pub(crate) fn sweep_scan(
         self,
-        words: &mut [u32],
-        flags: &mut [bool],
-        addresses: &mut [u32],
-        sizes: &mut [u32],
+        words: &[u32],
+        flags: &[bool],
+        sizes: &[u32],
         links: &mut [u32],
         marks: &mut [bool],
-        deeps: &mut [bool],
     ) -> Answered
-        requires { ⌜ (length (now words) ≡ self .m) × (length (now flags) ≡ self .m) × (length (now addresses) ≡ self .h) × (length (now sizes) ≡ self .h) × (length (now links) ≡ self .h) × (length (now marks) ≡ self .h) × (length (now deeps) ≡ self .h) × (self .m < 65536) × (self .h ≤ 4096) ⌝ }
-        ensures { λ r. ⌜ reply (boxed (now (words .exit)) (now (flags .exit)) (now (addresses .exit)) (now (sizes .exit)) (now (links .exit)) (now (marks .exit)) (now (deeps .exit)) (r .state)) (r .answer) ≡ sweep-scan (boxed (now (words .entry)) (now (flags .entry)) (now (addresses .entry)) (now (sizes .entry)) (now (links .entry)) (now (marks .entry)) (now (deeps .entry)) self) ⌝ }
+        requires { ⌜ (length (now words) ≡ self .m) × (length (now flags) ≡ self .m) × (length (now sizes) ≡ self .h) × (length (now links) ≡ self .h) × (length (now marks) ≡ self .h) × (self .m < 65536) ⌝ }
+        ensures { λ r. ⌜ ((ads : List ℕ) (ds : List Bool) → with-grant (reply (boxed (now (words .entry)) (now (flags .entry)) ads (now (sizes .entry)) (now (links .exit)) (now (marks .exit)) ds (r .state)) (r .answer)) ≡ sweep-scan (boxed (now (words .entry)) (now (flags .entry)) ads (now (sizes .entry)) (now (links .entry)) (now (marks .entry)) ds self)) ⌝ }
+        ensures { λ r. ⌜ Grants (self .m) (self .h) (r .state) (r .answer) ⌝ }
     {
         let h = self.tuple;
         if self.is_entry(h) {
             let i = h as usize;
             let size = sizes[i];
-            return self.sweep_tuple(size, words, flags, addresses, sizes, links, marks, deeps);
+            return self.sweep_tuple(size, words, flags, links, marks);
         }
         Answered {
             state: self,

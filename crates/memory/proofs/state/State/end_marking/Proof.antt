@@ -1,9 +1,12 @@
 -- `State::end_marking` equals the definition `end-marking`, by its cases. Assumes nothing.
 use mathlib.Core.List.{[]}
+use mathlib.Core.Path.{sym, _∙_}
+use denote.Ref.{now}
 use Rattle.memory.specs.Boxed.{boxed}
+use Rattle.memory.specs.Decide.{with-grant}
+use Rattle.memory.proofs.Granting.{thirty, nine}
 use Rattle.memory.proofs.Rooting.{marking-refused, marking-ended, marking-sweeps}
 use borrow.Author.Needs.{needs}
-use mathlib.Core.Path.{sym, _∙_}
 use Rattle.memory.proofs.state.State.end_marking.Statement.{statement}
 use Rattle.memory.proofs.state.State.end_marking.Tie as tie
 
@@ -11,43 +14,27 @@ end-refused-requires : tie.Need-end-refused-requires
 end-refused-requires c κs = search needs
 
 returns : tie.Need-returns
-returns c = marking-refused _ (c .before .before .if1 .taken) (sym (c .before .end-refused .ensures _ _ _ _ _ _ _) ∙ c .if2 .taken)
+unfolding with-grant
+returns c = let a = c .before .before .before .before .before .before .args in (λ ads ss ls ms ds. marking-refused (boxed (now (a .words)) (now (a .flags)) ads ss ls ms ds (a .self)) (c .before .before .if1 .taken) (sym (c .before .end-refused .ensures (now (a .words)) (now (a .flags)) ads ss ls ms ds) ∙ c .if2 .taken), λ e. absurd (nine e))
 
 end-cycle-requires : tie.Need-end-cycle-requires
-end-cycle-requires c κs = (search needs, search needs, search needs, search needs, search needs, search needs, search needs, search needs, search needs, sym (c .before .before .before .before .before .before .before .end-refused .ensures [] [] [] [] [] [] []) ∙ c .before .before .before .before .before .before .if2 .left)
-
-same-length : tie.Need-same-length
-same-length c = search needs
-
-same-length-2 : tie.Need-same-length-2
-same-length-2 c = search needs
-
-same-length-3 : tie.Need-same-length-3
-same-length-3 c = search needs
-
-same-length-4 : tie.Need-same-length-4
-same-length-4 c = search needs
-
-same-length-5 : tie.Need-same-length-5
-same-length-5 c = search needs
-
-same-length-6 : tie.Need-same-length-6
-same-length-6 c = search needs
+end-cycle-requires c κs = sym (c .before .end-refused .ensures [] [] [] [] [] [] []) ∙ c .if2 .left
 
 returns-2 : tie.Need-returns-2
-returns-2 c = marking-ended (boxed (c .before .before .before .before .before .before .before .before .before .before .before .before .before .before .before .before .before .before .before .before .before .before .before .before .before .before .before .before .before .before .args .words .now) (c .before .before .before .before .before .before .before .before .before .before .before .before .before .before .before .before .before .before .before .before .before .before .before .before .before .before .before .before .before .before .args .flags .now) (c .before .before .before .before .before .before .before .before .before .before .before .before .before .before .before .before .before .before .before .before .before .before .before .before .before .before .before .before .before .before .args .addresses .now) (c .before .before .before .before .before .before .before .before .before .before .before .before .before .before .before .before .before .before .before .before .before .before .before .before .before .before .before .before .before .before .args .sizes .now) (c .before .before .before .before .before .before .before .before .before .before .before .before .before .before .before .before .before .before .before .before .before .before .before .before .before .before .before .before .before .before .args .links .now) (c .before .before .before .before .before .before .before .before .before .before .before .before .before .before .before .before .before .before .before .before .before .before .before .before .before .before .before .before .before .before .args .marks .now) (c .before .before .before .before .before .before .before .before .before .before .before .before .before .before .before .before .before .before .before .before .before .before .before .before .before .before .before .before .before .before .args .deeps .now) (c .before .before .before .before .before .before .before .before .before .before .before .before .before .before .before .before .before .before .before .before .before .before .before .before .before .before .before .before .before .before .args .self)) _ (c .before .before .before .before .before .before .before .before .before .before .before .before .before .before .before .before .before .before .before .before .before .if1 .taken) (c .before .before .before .before .before .before .before .before .before .before .before .before .end-cycle .ensures (boxed (c .before .before .before .before .before .before .before .before .before .before .before .before .before .before .before .before .before .before .before .before .before .before .before .before .before .before .before .before .before .before .args .words .now) (c .before .before .before .before .before .before .before .before .before .before .before .before .before .before .before .before .before .before .before .before .before .before .before .before .before .before .before .before .before .before .args .flags .now) (c .before .before .before .before .before .before .before .before .before .before .before .before .before .before .before .before .before .before .before .before .before .before .before .before .before .before .before .before .before .before .args .addresses .now) (c .before .before .before .before .before .before .before .before .before .before .before .before .before .before .before .before .before .before .before .before .before .before .before .before .before .before .before .before .before .before .args .sizes .now) (c .before .before .before .before .before .before .before .before .before .before .before .before .before .before .before .before .before .before .before .before .before .before .before .before .before .before .before .before .before .before .args .links .now) (c .before .before .before .before .before .before .before .before .before .before .before .before .before .before .before .before .before .before .before .before .before .before .before .before .before .before .before .before .before .before .args .marks .now) (c .before .before .before .before .before .before .before .before .before .before .before .before .before .before .before .before .before .before .before .before .before .before .before .before .before .before .before .before .before .before .args .deeps .now) (c .before .before .before .before .before .before .before .before .before .before .before .before .before .before .before .before .before .before .before .before .before .before .before .before .before .before .before .before .before .before .args .self)))
+returns-2 c = let a = c .before .before .before .before .before .before .before .args in (λ ads ss ls ms ds. marking-ended (boxed (now (a .words)) (now (a .flags)) ads ss ls ms ds (a .self)) _ (c .before .before .before .if1 .taken) (c .end-cycle .ensures .0 (boxed (now (a .words)) (now (a .flags)) ads ss ls ms ds (a .self)) (now (a .words)) (now (a .flags)) ads ss ls ms ds), c .end-cycle .ensures .1)
 
-slice-read-t25 : tie.Need-slice-read-t25
-slice-read-t25 c = search needs
+shared-slice-read-t8 : tie.Need-shared-slice-read-t8
+shared-slice-read-t8 c = search needs
 
-slice-read-t10 : tie.Need-slice-read-t10
-slice-read-t10 c = search needs
+shared-slice-read-t5 : tie.Need-shared-slice-read-t5
+shared-slice-read-t5 c = search needs
 
 handle-requires : tie.Need-handle-requires
 handle-requires c κs = search needs
 
 returns-3 : tie.Need-returns-3
-returns-3 c = marking-sweeps _ _ (c .before .before .before .if1 .left) (c .handle .ensures .0)
+unfolding with-grant
+returns-3 c = let a = c .before .before .before .before .before .before .before .args in (λ ads ss ls ms ds. marking-sweeps (boxed (now (a .words)) (now (a .flags)) ads ss ls ms ds (a .self)) _ (c .before .before .before .if1 .left) (c .handle .ensures .0), λ e. absurd (thirty e))
 
 pub end-marking-spec : {M : Type 1} → statement M
 end-marking-spec =
@@ -56,14 +43,8 @@ end-marking-spec =
     end-refused-requires
     returns
     end-cycle-requires
-    same-length
-    same-length-2
-    same-length-3
-    same-length-4
-    same-length-5
-    same-length-6
     returns-2
-    slice-read-t25
-    slice-read-t10
+    shared-slice-read-t8
+    shared-slice-read-t5
     handle-requires
     returns-3)

@@ -1,8 +1,13 @@
 -- `State::leave_tuple` equals the definition `leave-tuple`, by its two cases: that it can leave gives each its bound. Assumes
 -- nothing.
+use native.Mathlib.Omega.{arith}
+use denote.Ref.{now}
+use Rattle.memory.specs.Boxed.{boxed}
+use Rattle.memory.specs.Decide.{with-grant}
+use Rattle.memory.proofs.Ending.{bare}
+use Rattle.memory.proofs.Granting.{thirty}
 use Rattle.memory.proofs.Moving.{leaving-within, leaving-last, leaving-inner, leave-last, leave-inner}
 use borrow.Author.Needs.{needs}
-use native.Mathlib.Omega.{arith}
 use Rattle.memory.proofs.state.State.leave_tuple.Statement.{statement}
 use Rattle.memory.proofs.state.State.leave_tuple.Tie as tie
 
@@ -13,40 +18,17 @@ add-after-2 : tie.Need-add-after-2
 add-after-2 c = omega (arith, leaving-within)
 
 end-cycle-requires : tie.Need-end-cycle-requires
-end-cycle-requires c κs = (search needs, search needs, search needs, search needs, search needs, search needs, search needs, search needs, search needs, leaving-last _ (c .before .before .before .before .before .before .before .before .before .before .before .before .before .before .before .before .pre .9) (c .before .before .before .before .before .before .if1 .taken))
-
-same-length : tie.Need-same-length
-same-length c = search needs
-
-same-length-2 : tie.Need-same-length-2
-same-length-2 c = search needs
-
-same-length-3 : tie.Need-same-length-3
-same-length-3 c = search needs
-
-same-length-4 : tie.Need-same-length-4
-same-length-4 c = search needs
-
-same-length-5 : tie.Need-same-length-5
-same-length-5 c = search needs
-
-same-length-6 : tie.Need-same-length-6
-same-length-6 c = search needs
+end-cycle-requires c κs = leaving-last (bare (c .before .before .before .before .before .args .self)) (c .before .before .before .before .before .pre .3) (c .if1 .taken)
 
 returns : tie.Need-returns
-returns c found = leave-last _ found _ (c .before .before .before .before .before .before .before .before .before .before .before .before .before .before .before .before .before .before .before .before .before .before .before .before .before .before .before .before .before .pre .9) (c .before .before .before .before .before .before .before .before .before .before .before .before .before .before .before .before .before .before .before .if1 .taken) (c .before .before .before .before .before .before .before .before .before .before .before .before .end-cycle .ensures found)
+returns c = let a = c .before .before .before .before .before .before .args in (λ found ads ss ls ms ds. leave-last (boxed (now (a .words)) (now (a .flags)) ads ss ls ms ds (a .self)) found _ (c .before .before .before .before .before .before .pre .3) (c .before .if1 .taken) (c .end-cycle .ensures .0 found (now (a .words)) (now (a .flags)) ads ss ls ms ds), c .end-cycle .ensures .1)
 
 go-on-requires : tie.Need-go-on-requires
-go-on-requires c κs = (search needs, search needs, leaving-inner _ (c .before .before .before .before .before .before .before .before .before .before .before .before .pre .9) (c .before .before .if1 .left))
-
-same-length-7 : tie.Need-same-length-7
-same-length-7 c = search needs
-
-same-length-8 : tie.Need-same-length-8
-same-length-8 c = search needs
+go-on-requires c κs = (c .before .before .before .before .before .pre .0, c .before .before .before .before .before .pre .1, leaving-inner (bare (c .before .before .before .before .before .args .self)) (c .before .before .before .before .before .pre .3) (c .if1 .left))
 
 returns-2 : tie.Need-returns-2
-returns-2 c found = leave-inner _ found _ (c .before .before .before .before .before .before .before .before .before .before .before .before .before .pre .9) (c .before .before .before .if1 .left) (c .go-on .ensures _ _ _ _ _)
+unfolding with-grant
+returns-2 c = let a = c .before .before .before .before .before .before .args in (λ found ads ss ls ms ds. leave-inner (boxed (now (a .words)) (now (a .flags)) ads ss ls ms ds (a .self)) found _ (c .before .before .before .before .before .before .pre .3) (c .before .if1 .left) (c .go-on .ensures ads ss ls ms ds), λ e. absurd (thirty e))
 
 pub leave-tuple-spec : {M : Type 1} → statement M
 leave-tuple-spec =
@@ -55,14 +37,6 @@ leave-tuple-spec =
     add-after
     add-after-2
     end-cycle-requires
-    same-length
-    same-length-2
-    same-length-3
-    same-length-4
-    same-length-5
-    same-length-6
     returns
     go-on-requires
-    same-length-7
-    same-length-8
     returns-2)

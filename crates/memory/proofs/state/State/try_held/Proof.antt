@@ -1,11 +1,12 @@
--- `State::try_held` equals the definition `try-held`, by its cases: since the end is not refused, a request that finds room
--- can be granted. Assumes nothing.
+-- `State::try_held` equals the definition `try-held` with the tuple of a granted request still to be made: since the end is not
+-- refused, a request that finds room can be granted. Assumes nothing.
 use mathlib.Core.List.{[]}
-use Rattle.memory.proofs.Entries.{entry-small}
-use Rattle.memory.proofs.Tuples.{room-top}
-use Rattle.memory.proofs.Ending.{grant-register, grant-entry, try-dropped, try-waits, try-granted}
-use borrow.Author.Needs.{needs}
 use mathlib.Core.Path.{sym, _∙_}
+use Rattle.memory.specs.Boxed.{boxed}
+use Rattle.memory.specs.Decide.{with-grant}
+use Rattle.memory.proofs.Granting.{eight, thirty-three, grants-held}
+use Rattle.memory.proofs.Ending.{try-dropped, try-waits, try-granted}
+use borrow.Author.Needs.{needs}
 use Rattle.memory.proofs.state.State.try_held.Statement.{statement}
 use Rattle.memory.proofs.state.State.try_held.Tie as tie
 
@@ -13,34 +14,16 @@ no-room-requires : tie.Need-no-room-requires
 no-room-requires c κs = search needs
 
 returns : tie.Need-returns
-returns c found = try-dropped _ found (sym (c .before .before .no-room .ensures _ _ _ _ _ _ _) ∙ c .before .if1 .taken) (c .if2 .taken)
+unfolding with-grant
+returns c = let a = c .before .before .before .args in (λ found ws fs ads ss ls ms ds. try-dropped (boxed ws fs ads ss ls ms ds (a .self)) found (sym (c .before .before .no-room .ensures ws fs ads ss ls ms ds) ∙ c .before .if1 .taken) (c .if2 .taken), λ e. absurd (eight e))
 
 returns-2 : tie.Need-returns-2
-returns-2 c found = try-waits _ found (sym (c .before .before .no-room .ensures _ _ _ _ _ _ _) ∙ c .before .if1 .taken) (c .if2 .left)
-
-new-tuple-requires : tie.Need-new-tuple-requires
-new-tuple-requires c κs = (search needs, search needs, search needs, search needs, search needs, search needs, search needs, search needs, search needs, entry-small _ _ (grant-entry _ (c .before .before .before .before .before .before .before .before .before .before .before .before .before .before .before .pre .9) (sym (c .before .before .before .before .before .before .before .no-room .ensures [] [] [] [] [] [] []) ∙ c .before .before .before .before .before .before .if1 .left) (c .before .before .before .before .before .before .before .before .before .before .before .before .before .before .before .pre .11)), grant-register _ (c .before .before .before .before .before .before .before .before .before .before .before .before .before .before .before .pre .9) (sym (c .before .before .before .before .before .before .before .no-room .ensures [] [] [] [] [] [] []) ∙ c .before .before .before .before .before .before .if1 .left) (c .before .before .before .before .before .before .before .before .before .before .before .before .before .before .before .pre .11), room-top _ _ (sym (c .before .before .before .before .before .before .before .no-room .ensures [] [] [] [] [] [] []) ∙ c .before .before .before .before .before .before .if1 .left), λ f. absurd (f (c .before .before .before .before .before .before .before .before .before .before .before .before .before .before .before .pre .10)))
-
-same-length : tie.Need-same-length
-same-length c = search needs
-
-same-length-2 : tie.Need-same-length-2
-same-length-2 c = search needs
-
-same-length-3 : tie.Need-same-length-3
-same-length-3 c = search needs
-
-same-length-4 : tie.Need-same-length-4
-same-length-4 c = search needs
-
-same-length-5 : tie.Need-same-length-5
-same-length-5 c = search needs
-
-same-length-6 : tie.Need-same-length-6
-same-length-6 c = search needs
+unfolding with-grant
+returns-2 c = let a = c .before .before .before .args in (λ found ws fs ads ss ls ms ds. try-waits (boxed ws fs ads ss ls ms ds (a .self)) found (sym (c .before .before .no-room .ensures ws fs ads ss ls ms ds) ∙ c .before .if1 .taken) (c .if2 .left), λ e. absurd (thirty-three e))
 
 returns-3 : tie.Need-returns-3
-returns-3 c found = try-granted _ found _ (c .before .before .before .before .before .before .before .before .before .before .before .before .before .before .before .before .before .before .before .before .before .before .before .before .before .before .before .before .pre .9) (c .before .before .before .before .before .before .before .before .before .before .before .before .before .before .before .before .before .before .before .before .before .before .before .before .before .before .before .before .pre .10) (c .before .before .before .before .before .before .before .before .before .before .before .before .before .before .before .before .before .before .before .before .before .before .before .before .before .before .before .before .pre .11) (sym (c .before .before .before .before .before .before .before .before .before .before .before .before .before .before .before .before .before .before .before .before .no-room .ensures _ _ _ _ _ _ _) ∙ c .before .before .before .before .before .before .before .before .before .before .before .before .before .before .before .before .before .before .before .if1 .left) (c .before .before .before .before .before .before .before .before .before .before .before .before .new-tuple .ensures)
+unfolding with-grant
+returns-3 c = let a = c .before .before .args in (λ found ws fs ads ss ls ms ds. try-granted (boxed ws fs ads ss ls ms ds (a .self)) found (c .before .before .pre .0) (c .before .before .pre .1) (c .before .before .pre .2) (sym (c .before .no-room .ensures ws fs ads ss ls ms ds) ∙ c .if1 .left), grants-held (a .self) (c .before .before .pre .0) (c .before .before .pre .1) (c .before .before .pre .2) (sym (c .before .no-room .ensures [] [] [] [] [] [] []) ∙ c .if1 .left))
 
 pub try-held-spec : {M : Type 1} → statement M
 try-held-spec =
@@ -49,11 +32,4 @@ try-held-spec =
     no-room-requires
     returns
     returns-2
-    new-tuple-requires
-    same-length
-    same-length-2
-    same-length-3
-    same-length-4
-    same-length-5
-    same-length-6
     returns-3)
