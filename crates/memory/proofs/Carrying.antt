@@ -1,14 +1,19 @@
 -- Requests by their kinds: the registers that each names, and what each does; and the order of refusals. Each computes from
 -- the definitions. Assumes nothing.
 use Prim.Native.Nat.{ℕ, _<_, _≤_}
-use mathlib.Core.Bool.{Bool, true, false, _&&_}
-use mathlib.Core.Path.{_≡_, sym, _∙_}
+use mathlib.Core.Bool.{Bool, true, false, cond, _&&_}
+use mathlib.Core.List.{List, [], _∷_}
+use mathlib.Core.Path.{_≡_, refl, sym, ap, subst, _∙_}
+use native.Mathlib.Omega.{arith}
+use denote.Enum.Declared.{tagOf}
+use types.Run.{OneOf, miss}
 use lib.Dec.{ltb}
 use borrow.Author.Tests.{ltb-true, lt-ltb, le-ltb}
 use Rattle.memory.specs.declared.kinds.Request.{Request}
 use Rattle.memory.specs.declared.kinds.Request.the-variants.{Setd, Nil, Move, Advance, Getm, Load, Store, Size, Tag, Same}
 use Rattle.memory.specs.Box.{Box, Reply, reply, data-word, pointer, register, put-register, sound}
 use Rattle.memory.specs.Request.{done, advance, getm, load, store, size, tag, same, is-register, registers-right, carry-out, request}
+use Rattle.memory.proofs.kinds.Request.{the-type}
 use Rattle.memory.proofs.Sizes.{and-left, and-right}
 
 -- ---- registers
@@ -159,21 +164,82 @@ module _ (q : Request) (r s t : ℕ) (e : q ≡ Same r s t) where
   unfolding carry-out
   does-same b x p = rw e p
 
--- ---- the order of refusals. y and z are the tests as they were made
+-- ---- the kinds that change the columns, by the positions of their variants
 
-module _ (q : Request) (b : Box) (y : Bool) (e : y ≡ sound b) where
-  pub refuse-unsound : y ≡ false → reply b 9 ≡ request q b
-  unfolding request
-  refuse-unsound f = simp (← e, f)
+abbrev pub others : List ℕ
+others = 0 ∷ 1 ∷ 2 ∷ 3 ∷ 5 ∷ 7 ∷ 8 ∷ 9 ∷ []
 
-  pub refuse-register : (z : Bool) → y ≡ true → z ≡ registers-right q → z ≡ false → reply b 1 ≡ request q b
-  unfolding request
-  refuse-register z f g h = simp (← e, f, ← g, h)
+pub not-getm : (q : Request) → OneOf others (tagOf the-type q) → (r n t : ℕ) → q ≡ Getm r n t → ⊥
+not-getm q h r n t e = miss others 4 tt (subst (λ (p : Request). OneOf others (tagOf the-type p)) e h)
 
-  pub refuse-held : (z : Bool) → y ≡ true → z ≡ registers-right q → z ≡ true → b .state .held ≡ true → reply b 6 ≡ request q b
-  unfolding request
-  refuse-held z f g h i = simp (← e, f, ← g, h, i)
+pub not-store : (q : Request) → OneOf others (tagOf the-type q) → (r s k : ℕ) → q ≡ Store r s k → ⊥
+not-store q h r s k e = miss others 6 tt (subst (λ (p : Request). OneOf others (tagOf the-type p)) e h)
 
-  pub carried : (z : Bool) (x : Reply) → y ≡ true → z ≡ registers-right q → z ≡ true → b .state .held ≡ false → x ≡ carry-out q b → x ≡ request q b
+abbrev two-kinds : List ℕ
+two-kinds = 4 ∷ 6 ∷ []
+
+-- a request of one of the two is one
+pub changed : (q : Request) → OneOf two-kinds (tagOf the-type q) → ((r n t : ℕ) → q ≡ Getm r n t → ⊥) → ((r s k : ℕ) → q ≡ Store r s k → ⊥) → ⊥
+changed (Setd r v) h x y = miss two-kinds 0 tt h
+changed (Nil r) h x y = miss two-kinds 1 tt h
+changed (Move r s) h x y = miss two-kinds 2 tt h
+changed (Advance r n) h x y = miss two-kinds 3 tt h
+changed (Getm r n t) h x y = x r n t refl
+changed (Load r s k) h x y = miss two-kinds 5 tt h
+changed (Store r s k) h x y = y r s k refl
+changed (Size r s) h x y = miss two-kinds 7 tt h
+changed (Tag r s) h x y = miss two-kinds 8 tt h
+changed (Same r s t) h x y = miss two-kinds 9 tt h
+
+-- ---- the order of refusals
+
+-- what refuses a request before its kind is looked at, 0 where nothing does; by the three tests
+abbrev code : Bool → Bool → Bool → ℕ
+code y z i = cond y (cond z (cond i 6 0) 1) 9
+
+abbrev pub refusal-of : Request → Box → ℕ
+refusal-of q b = code (sound b) (registers-right q) (b .state .held)
+
+module _ (q : Request) (b : Box) where
+  pub refusal-unsound : (y : Bool) → y ≡ sound b → y ≡ false → 9 ≡ refusal-of q b
+  refusal-unsound y e f = simp (← e, f)
+
+  pub refusal-register : (y z : Bool) → y ≡ sound b → y ≡ true → z ≡ registers-right q → z ≡ false → 1 ≡ refusal-of q b
+  refusal-register y z e f g h = simp (← e, f, ← g, h)
+
+  pub refusal-held : (y z : Bool) → y ≡ sound b → y ≡ true → z ≡ registers-right q → z ≡ true → b .state .held ≡ true → 6 ≡ refusal-of q b
+  refusal-held y z e f g h i = simp (← e, f, ← g, h, i)
+
+  pub refusal-none : (y z : Bool) → y ≡ sound b → y ≡ true → z ≡ registers-right q → z ≡ true → b .state .held ≡ false → 0 ≡ refusal-of q b
+  refusal-none y z e f g h i = simp (← e, f, ← g, h, i)
+
+  by-tests : (y z i : Bool) → sound b ≡ y → registers-right q ≡ z → code y z i ≡ 0 → (sound b ≡ true) × (registers-right q ≡ true)
+  by-tests true true true e g h = absurd (omega arith)
+  by-tests true true false e g h = (e, g)
+  by-tests true false i e g h = absurd (omega arith)
+  by-tests false z i e g h = absurd (omega arith)
+
+  -- a request that is not refused is carried out
+  pub not-refused : (r : ℕ) → r ≡ refusal-of q b → r ≡ 0 → (sound b ≡ true) × (registers-right q ≡ true)
+  not-refused r e f = by-tests (sound b) (registers-right q) (b .state .held) refl refl (sym e ∙ f)
+
+  pub carried : (r : ℕ) (x : Reply) → r ≡ refusal-of q b → r ≡ 0 → x ≡ carry-out q b → x ≡ request q b
   unfolding request
-  carried z x f g h i d = d ∙ simp (← e, f, ← g, h, i)
+  carried r x e f d = d ∙ go (sound b) (registers-right q) (b .state .held) (sym e ∙ f)
+    where
+      go : (y z i : Bool) → code y z i ≡ 0 → carry-out q b ≡ cond y (cond z (cond i (reply b 6) (carry-out q b)) (reply b 1)) (reply b 9)
+      go true true true h = absurd (omega arith)
+      go true true false h = refl
+      go true false i h = absurd (omega arith)
+      go false z i h = absurd (omega arith)
+
+  -- one that is refused leaves all as it was
+  pub refused : (r : ℕ) → r ≡ refusal-of q b → (r ≡ 0 → ⊥) → reply b r ≡ request q b
+  unfolding request
+  refused r e n = ap (reply b) e ∙ go (sound b) (registers-right q) (b .state .held) (λ f. n (e ∙ f))
+    where
+      go : (y z i : Bool) → (code y z i ≡ 0 → ⊥) → reply b (code y z i) ≡ cond y (cond z (cond i (reply b 6) (carry-out q b)) (reply b 1)) (reply b 9)
+      go true true true h = refl
+      go true true false h = absurd (h refl)
+      go true false i h = refl
+      go false z i h = refl

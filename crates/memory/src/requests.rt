@@ -3,8 +3,12 @@ use crate::kinds::Request;
 use crate::sound::sound;
 use crate::state::Answered;
 use crate::state::State;
-ghost use mathlib.Core.Bool.{true, _&&_};
+ghost use mathlib.Core.Bool.{Bool, true, cond, _&&_};
+ghost use mathlib.Core.List.{List};
 ghost use mathlib.Core.Path.{_≡_};
+ghost use Prim.Native.Nat.{ℕ};
+ghost use lib.ListN.{length};
+ghost use Rattle.memory.specs.declared.kinds.Request.the-variants.{Getm, Store};
 ghost use Rattle.memory.specs.Box.{reply, sound};
 ghost use Rattle.memory.specs.Boxed.{boxed};
 ghost use Rattle.memory.specs.Request.{is-register, registers-right, carry-out, request};
@@ -48,56 +52,60 @@ fn registers_right(q: Request) -> bool
 }
 
 impl State {
-    // Carries out a request in a sound box, its registers 0 to 7 and nothing held. Answers as its kind does.
+    // Carries out a request that changes registers only, which are all kinds but GETM and STORE. Answers as its kind does.
     fn carry_out(
         self,
         q: Request,
-        words: &mut [u32],
-        flags: &mut [bool],
-        addresses: &mut [u32],
-        sizes: &mut [u32],
-        links: &mut [u32],
-        marks: &mut [bool],
-        deeps: &mut [bool],
+        words: &[u32],
+        flags: &[bool],
+        addresses: &[u32],
+        sizes: &[u32],
     ) -> Answered
-        requires { ⌜ (sound (boxed (now words) (now flags) (now addresses) (now sizes) (now links) (now marks) (now deeps) self) ≡ true) × (registers-right q ≡ true) ⌝ }
-        ensures { λ a. ⌜ reply (boxed (now (words .exit)) (now (flags .exit)) (now (addresses .exit)) (now (sizes .exit)) (now (links .exit)) (now (marks .exit)) (now (deeps .exit)) (a .state)) (a .answer) ≡ carry-out q (boxed (now (words .entry)) (now (flags .entry)) (now (addresses .entry)) (now (sizes .entry)) (now (links .entry)) (now (marks .entry)) (now (deeps .entry)) self) ⌝ }
+        requires { ⌜ (length (now words) ≡ self .m) × (length (now flags) ≡ self .m) × (length (now addresses) ≡ self .h) × (length (now sizes) ≡ self .h) × (registers-right q ≡ true) × ((r n t : ℕ) → q ≡ Getm r n t → ⊥) × ((r s k : ℕ) → q ≡ Store r s k → ⊥) ⌝ }
+        ensures { λ a. ⌜ ((ls : List ℕ) (ms ds : List Bool) → reply (boxed (now (words .entry)) (now (flags .entry)) (now (addresses .entry)) (now (sizes .entry)) ls ms ds (a .state)) (a .answer) ≡ carry-out q (boxed (now (words .entry)) (now (flags .entry)) (now (addresses .entry)) (now (sizes .entry)) ls ms ds self)) ⌝ }
     {
         match q {
             Request::Setd { r, v } => self.set_data(r, v),
             Request::Nil { r } => self.set_nil(r),
             Request::Move { r, s } => self.move_register(r, s),
             Request::Advance { r, n } => self.advance(r, n),
-            Request::Getm { r, n, tag } => self.getm(
-                r,
-                n,
-                tag,
-                words,
-                flags,
-                addresses,
-                sizes,
-                links,
-                marks,
-                deeps,
-            ),
             Request::Load { r, s, k } => self.load(r, s, k, words, flags, addresses, sizes),
-            Request::Store { r, s, k } => self.store(
-                r,
-                s,
-                k,
-                words,
-                flags,
-                addresses,
-                sizes,
-                links,
-                marks,
-                deeps,
-            ),
             Request::Size { r, s } => self.size(r, s, sizes),
             Request::Tag { r, s } => self.tag(r, s, words, flags, addresses),
             Request::Same { r, s, t } => self.same(r, s, t),
+            _ => Answered {
+                state: self,
+                answer: 9,
+            },
         }
     }
+}
+
+// What refuses a request before its kind is looked at: 9 where the box is not sound, 1 for a register above 7, 6 while a
+// request is held. 0 where nothing does.
+fn refusal(
+    q: Request,
+    s: State,
+    words: &[u32],
+    flags: &[bool],
+    addresses: &[u32],
+    sizes: &[u32],
+    links: &[u32],
+    marks: &[bool],
+    deeps: &[bool],
+) -> u32
+    ensures { λ r. ⌜ r ≡ cond (sound (boxed (now (words .entry)) (now (flags .entry)) (now (addresses .entry)) (now (sizes .entry)) (now (links .entry)) (now (marks .entry)) (now (deeps .entry)) s)) (cond (registers-right q) (cond (s .held) 6 0) 1) 9 ⌝ }
+{
+    if sound(s, words, flags, addresses, sizes, links, marks, deeps) {
+        if registers_right(q) {
+            if s.held {
+                return 6;
+            }
+            return 0;
+        }
+        return 1;
+    }
+    9
 }
 
 // One request. Answers 9 where the box is not sound, 1 for a register above 7, 6 while a request is held, and otherwise as
@@ -115,23 +123,38 @@ pub fn request(
 ) -> Answered
     ensures { λ a. ⌜ reply (boxed (now (words .exit)) (now (flags .exit)) (now (addresses .exit)) (now (sizes .exit)) (now (links .exit)) (now (marks .exit)) (now (deeps .exit)) (a .state)) (a .answer) ≡ request q (boxed (now (words .entry)) (now (flags .entry)) (now (addresses .entry)) (now (sizes .entry)) (now (links .entry)) (now (marks .entry)) (now (deeps .entry)) s) ⌝ }
 {
-    if sound(s, words, flags, addresses, sizes, links, marks, deeps) {
-        if registers_right(q) {
-            if s.held {
-                return Answered {
-                    state: s,
-                    answer: 6,
-                };
-            }
-            return s.carry_out(q, words, flags, addresses, sizes, links, marks, deeps);
-        }
+    let refused = refusal(q, s, words, flags, addresses, sizes, links, marks, deeps);
+    if refused != 0 {
         return Answered {
             state: s,
-            answer: 1,
+            answer: refused,
         };
     }
-    Answered {
-        state: s,
-        answer: 9,
+    match q {
+        Request::Getm { r, n, tag } => s.getm(
+            r,
+            n,
+            tag,
+            words,
+            flags,
+            addresses,
+            sizes,
+            links,
+            marks,
+            deeps,
+        ),
+        Request::Store { r, s: t, k } => s.store(
+            r,
+            t,
+            k,
+            words,
+            flags,
+            addresses,
+            sizes,
+            links,
+            marks,
+            deeps,
+        ),
+        _ => s.carry_out(q, words, flags, addresses, sizes),
     }
 }

@@ -2,9 +2,11 @@
 use crate::sound::sound;
 use crate::state::State;
 use crate::steps::step;
+ghost use mathlib.Core.Bool.{cond, _||_};
 ghost use mathlib.Core.Path.{_≡_};
+ghost use lib.Dec.{eqb};
 ghost use Rattle.memory.specs.Boxed.{boxed};
-ghost use Rattle.memory.specs.Run.{ran, run-on, run};
+ghost use Rattle.memory.specs.Run.{ran, run};
 
 // What a run leaves, its answer, and the number of single steps from its first state to its last.
 pub struct Ran {
@@ -13,70 +15,38 @@ pub struct Ran {
     pub steps: u32,
 }
 
-// Steps until one stops the run or the budget is spent. Answers 0, 8, 9 or 11, and counts the steps that were done; a step
-// that answers 9 is not counted, and leaves everything as found.
-fn run_on(
-    budget: u32,
-    s: State,
-    words: &mut [u32],
-    flags: &mut [bool],
-    addresses: &mut [u32],
-    sizes: &mut [u32],
-    links: &mut [u32],
-    marks: &mut [bool],
-    deeps: &mut [bool],
-) -> Ran
-    ensures { λ r. ⌜ ran (boxed (now (words .exit)) (now (flags .exit)) (now (addresses .exit)) (now (sizes .exit)) (now (links .exit)) (now (marks .exit)) (now (deeps .exit)) (r .state)) (r .answer) (r .steps) ≡ run-on budget (boxed (now (words .entry)) (now (flags .entry)) (now (addresses .entry)) (now (sizes .entry)) (now (links .entry)) (now (marks .entry)) (now (deeps .entry)) s) ⌝ }
+// The one number or the other.
+fn choose(t: bool, n: u32, m: u32) -> u32
+    ensures { λ r. ⌜ r ≡ cond t n m ⌝ }
 {
-    let mut state = s;
-    let mut steps: u32 = 0;
-    while steps < budget {
-        let r = step(state, words, flags, addresses, sizes, links, marks, deeps);
-        let answer = r.answer;
-        let next = r.state;
-        if answer == 9 {
-            return Ran {
-                state: next,
-                answer: 9,
-                steps: steps,
-            };
-        }
-        steps += 1;
-        if answer == 8 {
-            return Ran {
-                state: next,
-                answer: 8,
-                steps: steps,
-            };
-        }
-        if answer == 31 {
-            return Ran {
-                state: next,
-                answer: 0,
-                steps: steps,
-            };
-        }
-        if answer == 32 {
-            return Ran {
-                state: next,
-                answer: 0,
-                steps: steps,
-            };
-        }
-        state = next;
+    if t {
+        return n;
     }
-    Ran {
-        state: state,
-        answer: 11,
-        steps: steps,
+    m
+}
+
+// What a step's answer makes the run's answer: 9, 8 or 0 where it stops the run, and 11 where the run goes on.
+fn outcome(answer: u32) -> u32
+    ensures { λ r. ⌜ r ≡ cond (eqb answer 9) 9 (cond (eqb answer 8) 8 (cond (eqb answer 31 || eqb answer 32) 0 11)) ⌝ }
+{
+    if answer == 9 {
+        return 9;
     }
+    if answer == 8 {
+        return 8;
+    }
+    if answer == 31 {
+        return 0;
+    }
+    choose(answer == 32, 0, 11)
 }
 
 // A run with a budget of steps. Answers 0 where it stopped at a step that answers 31 or 32, 8 where the held request was
-// dropped, 9 where sizes, lengths or phase are wrong, also with budget 0, or before a step that answers 9, else 11.
+// dropped, 9 where sizes, lengths or phase are wrong, also with budget 0, or before a step that answers 9, else 11. A step
+// that answers 9 is not counted, and leaves everything as found.
 pub fn run(
     budget: u32,
-    s: State,
+    mut s: State,
     words: &mut [u32],
     flags: &mut [bool],
     addresses: &mut [u32],
@@ -87,22 +57,20 @@ pub fn run(
 ) -> Ran
     ensures { λ r. ⌜ ran (boxed (now (words .exit)) (now (flags .exit)) (now (addresses .exit)) (now (sizes .exit)) (now (links .exit)) (now (marks .exit)) (now (deeps .exit)) (r .state)) (r .answer) (r .steps) ≡ run budget (boxed (now (words .entry)) (now (flags .entry)) (now (addresses .entry)) (now (sizes .entry)) (now (links .entry)) (now (marks .entry)) (now (deeps .entry)) s) ⌝ }
 {
-    if sound(s, words, flags, addresses, sizes, links, marks, deeps) {
-        return run_on(
-            budget,
-            s,
-            words,
-            flags,
-            addresses,
-            sizes,
-            links,
-            marks,
-            deeps,
-        );
+    let right = sound(s, words, flags, addresses, sizes, links, marks, deeps);
+    let mut left = choose(right, budget, 0);
+    let mut answer = choose(right, 11, 9);
+    let mut steps: u32 = 0;
+    while 0 < left {
+        let r = step(s, words, flags, addresses, sizes, links, marks, deeps);
+        s = r.state;
+        answer = outcome(r.answer);
+        left = choose(answer == 11, left - 1, 0);
+        steps = choose(answer == 9, steps, steps + 1);
     }
     Ran {
         state: s,
-        answer: 9,
-        steps: 0,
+        answer,
+        steps,
     }
 }
