@@ -11,7 +11,7 @@ use borrow.Author.Tests.{eq-eqb, ne-eqb, leb-true, eqb-true}
 use Rattle.memory.specs.declared.state.State.{State}
 use Rattle.memory.specs.Limits.{in-range}
 use Rattle.memory.specs.Box.{Box, lengths-are, right-sizes, sound}
-use Rattle.memory.specs.Boxed.{boxed}
+use Rattle.memory.specs.Boxed.{boxed, HasLengths}
 
 -- ---- conjunctions
 
@@ -39,11 +39,10 @@ split7 a b c d e f g p =
 
 -- ---- lengths
 
--- six lengths are right: what is left is the seventh
-pub last-length : (m h : ℕ) (ws : List ℕ) (fs : List Bool) (ads ss ls : List ℕ) (ms ds : List Bool) (s : State) → length ws ≡ m → length fs ≡ m → length ads ≡ h → length ss ≡ h → length ls ≡ h → length ms ≡ h → eqb (length ds) h ≡ lengths-are m h (boxed ws fs ads ss ls ms ds s)
+-- what is asked of the columns is asked of their lengths
+pub lengths-by : (m h : ℕ) (b : Box) (w f a z l k d : ℕ) → HasLengths b w f a z l k d → lengths-are m h b ≡ (eqb w m && eqb f m && eqb a h && eqb z h && eqb l h && eqb k h && eqb d h)
 unfolding lengths-are
-last-length m h ws fs ads ss ls ms ds s p1 p2 p3 p4 p5 p6 =
-    simp (eq-eqb (length ws) m p1, eq-eqb (length fs) m p2, eq-eqb (length ads) h p3, eq-eqb (length ss) h p4, eq-eqb (length ls) h p5, eq-eqb (length ms) h p6)
+lengths-by m h b w f a z l k d q = simp (q .0, q .1, q .2, q .3, q .4, q .5, q .6)
 
 -- the columns have the lengths m and h
 pub record Lengths (m h : ℕ) (b : Box) : Type 0 where

@@ -2,6 +2,8 @@
 use Prim.Native.Nat.{ℕ, _<_}
 use mathlib.Core.Bool.{Bool}
 use mathlib.Core.List.{List}
+use mathlib.Core.Path.{_≡_}
+use lib.ListN.{length}
 use Rattle.memory.specs.declared.state.State.{State}
 use Rattle.memory.specs.declared.word.Word as code-word
 use Rattle.memory.specs.declared.place.Place as code-place
@@ -12,6 +14,10 @@ use Rattle.memory.specs.Place.{Place, copy-place, at}
 -- the seven columns and the state
 abbrev pub boxed : List ℕ → List Bool → List ℕ → List ℕ → List ℕ → List Bool → List Bool → State → Box
 boxed ws fs ads ss ls ms ds s = record { words = ws; flags = fs; addresses = ads; sizes = ss; links = ls; marks = ms; deeps = ds; state = s }
+
+-- the columns of a box have these lengths
+abbrev pub HasLengths : Box → ℕ → ℕ → ℕ → ℕ → ℕ → ℕ → ℕ → Type 0
+HasLengths b w f a z l k d = (length (b .words) ≡ w) × (length (b .flags) ≡ f) × (length (b .addresses) ≡ a) × (length (b .sizes) ≡ z) × (length (b .links) ≡ l) × (length (b .marks) ≡ k) × (length (b .deeps) ≡ d)
 
 abbrev pub word-of : code-word.Word → Word
 word-of w = record { bits = w .bits; flag = w .flag }

@@ -106,7 +106,17 @@ pub fn open(
 ) -> Answered
     ensures { λ r. ⌜ reply (boxed (now (words .exit)) (now (flags .exit)) (now (addresses .exit)) (now (sizes .exit)) (now (links .exit)) (now (marks .exit)) (now (deeps .exit)) (r .state)) (r .answer) ≡ opening m h (boxed (now (words .entry)) (now (flags .entry)) (now (addresses .entry)) (now (sizes .entry)) (now (links .entry)) (now (marks .entry)) (now (deeps .entry)) s) ⌝ }
 {
-    if right_sizes(m, h, words, flags, addresses, sizes, links, marks, deeps) {
+    if right_sizes(
+        m,
+        h,
+        words.len(),
+        flags.len(),
+        addresses.len(),
+        sizes.len(),
+        links.len(),
+        marks.len(),
+        deeps.len(),
+    ) {
         clear(words);
         unset(flags);
         clear(addresses);

@@ -9,8 +9,8 @@ ghost use mathlib.Core.Path.{_≡_};
 ghost use Prim.Native.Nat.{ℕ};
 ghost use lib.ListN.{length};
 ghost use Rattle.memory.specs.declared.kinds.Request.the-variants.{Getm, Store};
-ghost use Rattle.memory.specs.Box.{reply, sound};
-ghost use Rattle.memory.specs.Boxed.{boxed};
+ghost use Rattle.memory.specs.Box.{Box, reply, sound};
+ghost use Rattle.memory.specs.Boxed.{boxed, HasLengths};
 ghost use Rattle.memory.specs.Request.{is-register, registers-right, carry-out, request};
 
 // Whether two numbers are registers.
@@ -86,15 +86,15 @@ impl State {
 fn refusal(
     q: Request,
     s: State,
-    words: &[u32],
-    flags: &[bool],
-    addresses: &[u32],
-    sizes: &[u32],
-    links: &[u32],
-    marks: &[bool],
-    deeps: &[bool],
+    words: usize,
+    flags: usize,
+    addresses: usize,
+    sizes: usize,
+    links: usize,
+    marks: usize,
+    deeps: usize,
 ) -> u32
-    ensures { λ r. ⌜ r ≡ cond (sound (boxed (now (words .entry)) (now (flags .entry)) (now (addresses .entry)) (now (sizes .entry)) (now (links .entry)) (now (marks .entry)) (now (deeps .entry)) s)) (cond (registers-right q) (cond (s .held) 6 0) 1) 9 ⌝ }
+    ensures { λ r. ⌜ ((b : Box) → b .state ≡ s → HasLengths b words flags addresses sizes links marks deeps → r ≡ cond (sound b) (cond (registers-right q) (cond (b .state .held) 6 0) 1) 9) ⌝ }
 {
     if sound(s, words, flags, addresses, sizes, links, marks, deeps) {
         if registers_right(q) {
@@ -123,7 +123,17 @@ pub fn request(
 ) -> Answered
     ensures { λ a. ⌜ reply (boxed (now (words .exit)) (now (flags .exit)) (now (addresses .exit)) (now (sizes .exit)) (now (links .exit)) (now (marks .exit)) (now (deeps .exit)) (a .state)) (a .answer) ≡ request q (boxed (now (words .entry)) (now (flags .entry)) (now (addresses .entry)) (now (sizes .entry)) (now (links .entry)) (now (marks .entry)) (now (deeps .entry)) s) ⌝ }
 {
-    let refused = refusal(q, s, words, flags, addresses, sizes, links, marks, deeps);
+    let refused = refusal(
+        q,
+        s,
+        words.len(),
+        flags.len(),
+        addresses.len(),
+        sizes.len(),
+        links.len(),
+        marks.len(),
+        deeps.len(),
+    );
     if refused != 0 {
         return Answered {
             state: s,

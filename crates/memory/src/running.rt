@@ -57,7 +57,16 @@ pub fn run(
 ) -> Ran
     ensures { λ r. ⌜ ran (boxed (now (words .exit)) (now (flags .exit)) (now (addresses .exit)) (now (sizes .exit)) (now (links .exit)) (now (marks .exit)) (now (deeps .exit)) (r .state)) (r .answer) (r .steps) ≡ run budget (boxed (now (words .entry)) (now (flags .entry)) (now (addresses .entry)) (now (sizes .entry)) (now (links .entry)) (now (marks .entry)) (now (deeps .entry)) s) ⌝ }
 {
-    let right = sound(s, words, flags, addresses, sizes, links, marks, deeps);
+    let right = sound(
+        s,
+        words.len(),
+        flags.len(),
+        addresses.len(),
+        sizes.len(),
+        links.len(),
+        marks.len(),
+        deeps.len(),
+    );
     let mut left = choose(right, budget, 0);
     let mut answer = choose(right, 11, 9);
     let mut steps: u32 = 0;

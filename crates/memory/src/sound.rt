@@ -1,12 +1,9 @@
 // What every call tests first: the sizes, the lengths of the lent columns, and the phase.
 use crate::state::State;
-ghost use mathlib.Core.Bool.{Bool};
 ghost use mathlib.Core.Path.{_≡_};
-ghost use Prim.Native.Nat.{ℕ};
-ghost use Rattle.memory.specs.declared.state.State.{State};
 ghost use Rattle.memory.specs.Limits.{in-range};
-ghost use Rattle.memory.specs.Box.{lengths-are, right-sizes, sound};
-ghost use Rattle.memory.specs.Boxed.{boxed};
+ghost use Rattle.memory.specs.Box.{Box, lengths-are, right-sizes, sound};
+ghost use Rattle.memory.specs.Boxed.{HasLengths};
 
 // The limits of document 01, as in specs/Limits.antt.
 const LEAST_WORDS: u32 = 16;
@@ -35,56 +32,56 @@ fn in_range(m: u32, h: u32) -> bool
     h <= MOST_ENTRIES
 }
 
-// Whether the memory's two columns have length m and the directory's five length h.
+// Whether the memory's two lengths are m and the directory's five h.
 fn lengths_are(
     m: u32,
     h: u32,
-    words: &[u32],
-    flags: &[bool],
-    addresses: &[u32],
-    sizes: &[u32],
-    links: &[u32],
-    marks: &[bool],
-    deeps: &[bool],
+    words: usize,
+    flags: usize,
+    addresses: usize,
+    sizes: usize,
+    links: usize,
+    marks: usize,
+    deeps: usize,
 ) -> bool
-    ensures { λ r. ⌜ ((s : State) → r ≡ lengths-are m h (boxed (now (words .entry)) (now (flags .entry)) (now (addresses .entry)) (now (sizes .entry)) (now (links .entry)) (now (marks .entry)) (now (deeps .entry)) s)) ⌝ }
+    ensures { λ r. ⌜ ((b : Box) → HasLengths b words flags addresses sizes links marks deeps → r ≡ lengths-are m h b) ⌝ }
 {
     let ms = m as usize;
     let hs = h as usize;
-    if words.len() != ms {
+    if words != ms {
         return false;
     }
-    if flags.len() != ms {
+    if flags != ms {
         return false;
     }
-    if addresses.len() != hs {
+    if addresses != hs {
         return false;
     }
-    if sizes.len() != hs {
+    if sizes != hs {
         return false;
     }
-    if links.len() != hs {
+    if links != hs {
         return false;
     }
-    if marks.len() != hs {
+    if marks != hs {
         return false;
     }
-    deeps.len() == hs
+    deeps == hs
 }
 
 // Whether m and h are sizes that a box may have and are the lengths of the lent columns.
 pub(crate) fn right_sizes(
     m: u32,
     h: u32,
-    words: &[u32],
-    flags: &[bool],
-    addresses: &[u32],
-    sizes: &[u32],
-    links: &[u32],
-    marks: &[bool],
-    deeps: &[bool],
+    words: usize,
+    flags: usize,
+    addresses: usize,
+    sizes: usize,
+    links: usize,
+    marks: usize,
+    deeps: usize,
 ) -> bool
-    ensures { λ r. ⌜ ((s : State) → r ≡ right-sizes m h (boxed (now (words .entry)) (now (flags .entry)) (now (addresses .entry)) (now (sizes .entry)) (now (links .entry)) (now (marks .entry)) (now (deeps .entry)) s)) ⌝ }
+    ensures { λ r. ⌜ ((b : Box) → HasLengths b words flags addresses sizes links marks deeps → r ≡ right-sizes m h b) ⌝ }
 {
     if in_range(m, h) {
         return lengths_are(m, h, words, flags, addresses, sizes, links, marks, deeps);
@@ -92,18 +89,19 @@ pub(crate) fn right_sizes(
     false
 }
 
-// Whether the state's sizes are right and the phase is 0 to 8. Where it is not so, every call answers 9.
+// Whether the state's sizes are right for columns of these lengths and the phase is 0 to 8. Where it is not so, every call
+// answers 9.
 pub(crate) fn sound(
     s: State,
-    words: &[u32],
-    flags: &[bool],
-    addresses: &[u32],
-    sizes: &[u32],
-    links: &[u32],
-    marks: &[bool],
-    deeps: &[bool],
+    words: usize,
+    flags: usize,
+    addresses: usize,
+    sizes: usize,
+    links: usize,
+    marks: usize,
+    deeps: usize,
 ) -> bool
-    ensures { λ r. ⌜ r ≡ sound (boxed (now (words .entry)) (now (flags .entry)) (now (addresses .entry)) (now (sizes .entry)) (now (links .entry)) (now (marks .entry)) (now (deeps .entry)) s) ⌝ }
+    ensures { λ r. ⌜ ((b : Box) → b .state ≡ s → HasLengths b words flags addresses sizes links marks deeps → r ≡ sound b) ⌝ }
 {
     let m = s.m;
     let h = s.h;

@@ -89,7 +89,16 @@ pub fn step(
 ) -> Answered
     ensures { λ r. ⌜ reply (boxed (now (words .exit)) (now (flags .exit)) (now (addresses .exit)) (now (sizes .exit)) (now (links .exit)) (now (marks .exit)) (now (deeps .exit)) (r .state)) (r .answer) ≡ step (boxed (now (words .entry)) (now (flags .entry)) (now (addresses .entry)) (now (sizes .entry)) (now (links .entry)) (now (marks .entry)) (now (deeps .entry)) s) ⌝ }
 {
-    if sound(s, words, flags, addresses, sizes, links, marks, deeps) {
+    if sound(
+        s,
+        words.len(),
+        flags.len(),
+        addresses.len(),
+        sizes.len(),
+        links.len(),
+        marks.len(),
+        deeps.len(),
+    ) {
         let done = s.rule(words, flags, addresses, sizes, links, marks, deeps);
         let answer = done.answer;
         let held = done.state;

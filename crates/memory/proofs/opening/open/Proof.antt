@@ -1,6 +1,6 @@
 -- `opening::open` meets its contract: refused, or each column as its loop leaves it. Assumes nothing.
 use native.Mathlib.Omega.{arith}
-use mathlib.Core.Path.{sym, _∙_}
+use mathlib.Core.Path.{refl, sym, _∙_}
 use denote.Ref.{now}
 use Rattle.memory.specs.Boxed.{boxed}
 use Rattle.memory.proofs.Sizes.{sizes-lengths, sizes-ranges}
@@ -32,7 +32,7 @@ clear-requires-3 : tie.Need-clear-requires-3
 clear-requires-3 c κs = search needs
 
 link-all-requires : tie.Need-link-all-requires
-link-all-requires c κs = let a = c .before .before .before .before .before .before .before .before .before .before .before .before .before .before .before .before .before .before .before .before .before .before .before .before .before .before .before .before .before .before .before .before .before .args in let right = sym (c .before .before .before .before .before .before .before .before .before .before .before .before .before .before .before .before .before .before .right-sizes .ensures (a .s)) ∙ c .before .before .before .before .before .before .before .before .before .before .before .before .before .before .before .before .before .if1 .taken in omega (arith, sizes-lengths (a .m) (a .h) (boxed (now (a .words)) (now (a .flags)) (now (a .addresses)) (now (a .sizes)) (now (a .links)) (now (a .marks)) (now (a .deeps)) (a .s)) right .links, sizes-ranges (a .m) (a .h) (boxed (now (a .words)) (now (a .flags)) (now (a .addresses)) (now (a .sizes)) (now (a .links)) (now (a .marks)) (now (a .deeps)) (a .s)) right .entries)
+link-all-requires c κs = let a = c .before .before .before .before .before .before .before .before .before .before .before .before .before .before .before .before .before .before .before .before .before .before .before .before .before .before .args in let right = sym (c .before .before .before .before .before .before .before .before .before .before .before .before .before .before .before .before .before .before .right-sizes .ensures (boxed (now (a .words)) (now (a .flags)) (now (a .addresses)) (now (a .sizes)) (now (a .links)) (now (a .marks)) (now (a .deeps)) (a .s)) (refl, refl, refl, refl, refl, refl, refl)) ∙ c .before .before .before .before .before .before .before .before .before .before .before .before .before .before .before .before .before .if1 .taken in omega (arith, sizes-lengths (a .m) (a .h) (boxed (now (a .words)) (now (a .flags)) (now (a .addresses)) (now (a .sizes)) (now (a .links)) (now (a .marks)) (now (a .deeps)) (a .s)) right .links, sizes-ranges (a .m) (a .h) (boxed (now (a .words)) (now (a .flags)) (now (a .addresses)) (now (a .sizes)) (now (a .links)) (now (a .marks)) (now (a .deeps)) (a .s)) right .entries)
 
 unset-requires-2 : tie.Need-unset-requires-2
 unset-requires-2 c κs = search needs
@@ -65,31 +65,10 @@ same-length-7 : tie.Need-same-length-7
 same-length-7 c = search needs
 
 returns : tie.Need-returns
-returns c = let a = c .before .before .before .before .before .before .before .before .before .before .before .before .before .before .before .before .before .before .before .before .before .before .before .before .before .before .before .before .before .before .before .before .before .before .before .before .before .before .before .before .before .before .before .before .before .args in let right = sym (c .before .before .before .before .before .before .before .before .before .before .before .before .before .before .before .before .before .before .before .before .before .before .before .before .before .before .before .before .before .before .right-sizes .ensures (a .s)) ∙ c .before .before .before .before .before .before .before .before .before .before .before .before .before .before .before .before .before .before .before .before .before .before .before .before .before .before .before .before .before .if1 .taken in open-done _ _ (boxed (now (a .words)) (now (a .flags)) (now (a .addresses)) (now (a .sizes)) (now (a .links)) (now (a .marks)) (now (a .deeps)) (a .s)) _ (c .before .before .before .before .before .before .before .before .before .before .before .before .before .before .before .before .before .before .before .before .before .before .before .before .before .before .before .before .before .before .right-sizes .ensures (a .s)) _ (c .before .before .before .before .before .before .before .before .before .before .before .before .before .before .before .before .before .before .before .before .before .before .before .before .before .before .before .before .before .if1 .taken) (opened-whole (a .m) (a .h) (boxed (now (a .words)) (now (a .flags)) (now (a .addresses)) (now (a .sizes)) (now (a .links)) (now (a .marks)) (now (a .deeps)) (a .s)) (sizes-lengths (a .m) (a .h) (boxed (now (a .words)) (now (a .flags)) (now (a .addresses)) (now (a .sizes)) (now (a .links)) (now (a .marks)) (now (a .deeps)) (a .s)) right) _ _ _ _ _ _ _ _ (c .before .before .before .before .before .before .before .before .before .before .before .before .before .before .before .before .before .before .before .before .before .before .before .before .before .before .before .clear .ensures) (c .before .before .before .before .before .before .before .before .before .before .before .before .before .before .before .before .before .before .before .before .before .before .before .unset .ensures) (c .before .before .before .before .before .before .before .before .before .before .before .before .before .before .before .before .before .before .before .clear2 .ensures) (c .before .before .before .before .before .before .before .before .before .before .before .before .before .before .before .clear3 .ensures) (c .before .before .before .before .before .before .before .before .before .before .before .link-all .ensures) (c .before .before .before .before .before .before .before .unset2 .ensures) (c .before .before .before .unset3 .ensures) (c .new-state .ensures))
-
-same-length-8 : tie.Need-same-length-8
-same-length-8 c = search needs
-
-same-length-9 : tie.Need-same-length-9
-same-length-9 c = search needs
-
-same-length-10 : tie.Need-same-length-10
-same-length-10 c = search needs
-
-same-length-11 : tie.Need-same-length-11
-same-length-11 c = search needs
-
-same-length-12 : tie.Need-same-length-12
-same-length-12 c = search needs
-
-same-length-13 : tie.Need-same-length-13
-same-length-13 c = search needs
-
-same-length-14 : tie.Need-same-length-14
-same-length-14 c = search needs
+returns c = let a = c .before .before .before .before .before .before .before .before .before .before .before .before .before .before .before .before .before .before .before .before .before .before .before .before .before .before .before .before .before .before .before .before .before .before .before .before .before .before .args in let right = sym (c .before .before .before .before .before .before .before .before .before .before .before .before .before .before .before .before .before .before .before .before .before .before .before .before .before .before .before .before .before .before .right-sizes .ensures (boxed (now (a .words)) (now (a .flags)) (now (a .addresses)) (now (a .sizes)) (now (a .links)) (now (a .marks)) (now (a .deeps)) (a .s)) (refl, refl, refl, refl, refl, refl, refl)) ∙ c .before .before .before .before .before .before .before .before .before .before .before .before .before .before .before .before .before .before .before .before .before .before .before .before .before .before .before .before .before .if1 .taken in open-done _ _ (boxed (now (a .words)) (now (a .flags)) (now (a .addresses)) (now (a .sizes)) (now (a .links)) (now (a .marks)) (now (a .deeps)) (a .s)) _ (c .before .before .before .before .before .before .before .before .before .before .before .before .before .before .before .before .before .before .before .before .before .before .before .before .before .before .before .before .before .before .right-sizes .ensures (boxed (now (a .words)) (now (a .flags)) (now (a .addresses)) (now (a .sizes)) (now (a .links)) (now (a .marks)) (now (a .deeps)) (a .s)) (refl, refl, refl, refl, refl, refl, refl)) _ (c .before .before .before .before .before .before .before .before .before .before .before .before .before .before .before .before .before .before .before .before .before .before .before .before .before .before .before .before .before .if1 .taken) (opened-whole (a .m) (a .h) (boxed (now (a .words)) (now (a .flags)) (now (a .addresses)) (now (a .sizes)) (now (a .links)) (now (a .marks)) (now (a .deeps)) (a .s)) (sizes-lengths (a .m) (a .h) (boxed (now (a .words)) (now (a .flags)) (now (a .addresses)) (now (a .sizes)) (now (a .links)) (now (a .marks)) (now (a .deeps)) (a .s)) right) _ _ _ _ _ _ _ _ (c .before .before .before .before .before .before .before .before .before .before .before .before .before .before .before .before .before .before .before .before .before .before .before .before .before .before .before .clear .ensures) (c .before .before .before .before .before .before .before .before .before .before .before .before .before .before .before .before .before .before .before .before .before .before .before .unset .ensures) (c .before .before .before .before .before .before .before .before .before .before .before .before .before .before .before .before .before .before .before .clear2 .ensures) (c .before .before .before .before .before .before .before .before .before .before .before .before .before .before .before .clear3 .ensures) (c .before .before .before .before .before .before .before .before .before .before .before .link-all .ensures) (c .before .before .before .before .before .before .before .unset2 .ensures) (c .before .before .before .unset3 .ensures) (c .new-state .ensures))
 
 returns-2 : tie.Need-returns-2
-returns-2 c = let a = c .before .before .before .before .before .before .before .before .before .before .before .before .before .before .before .before .args in open-refused _ _ (boxed (now (a .words)) (now (a .flags)) (now (a .addresses)) (now (a .sizes)) (now (a .links)) (now (a .marks)) (now (a .deeps)) (a .s)) _ (c .before .right-sizes .ensures (a .s)) (c .if1 .left)
+returns-2 c = let a = c .before .before .before .before .before .before .before .before .before .args in open-refused _ _ (boxed (now (a .words)) (now (a .flags)) (now (a .addresses)) (now (a .sizes)) (now (a .links)) (now (a .marks)) (now (a .deeps)) (a .s)) _ (c .before .right-sizes .ensures (boxed (now (a .words)) (now (a .flags)) (now (a .addresses)) (now (a .sizes)) (now (a .links)) (now (a .marks)) (now (a .deeps)) (a .s)) (refl, refl, refl, refl, refl, refl, refl)) (c .if1 .left)
 
 pub open-spec : {M : Type 1} → statement M
 open-spec =
@@ -112,11 +91,4 @@ open-spec =
     same-length-6
     same-length-7
     returns
-    same-length-8
-    same-length-9
-    same-length-10
-    same-length-11
-    same-length-12
-    same-length-13
-    same-length-14
     returns-2)

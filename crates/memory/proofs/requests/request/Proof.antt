@@ -11,41 +11,20 @@ use Rattle.memory.proofs.requests.request.Tie as tie
 refusal-requires : tie.Need-refusal-requires
 refusal-requires c κs = tt
 
-same-length : tie.Need-same-length
-same-length c = refl
-
-same-length-2 : tie.Need-same-length-2
-same-length-2 c = refl
-
-same-length-3 : tie.Need-same-length-3
-same-length-3 c = refl
-
-same-length-4 : tie.Need-same-length-4
-same-length-4 c = refl
-
-same-length-5 : tie.Need-same-length-5
-same-length-5 c = refl
-
-same-length-6 : tie.Need-same-length-6
-same-length-6 c = refl
-
-same-length-7 : tie.Need-same-length-7
-same-length-7 c = refl
-
 returns : tie.Need-returns
 returns c =
-    let a = c .before .before .before .before .before .before .before .before .before .before .before .before .before .before .before .before .args in
+    let a = c .before .before .before .before .before .before .before .before .before .args in
     let b : Box = boxed (now (a .words)) (now (a .flags)) (now (a .addresses)) (now (a .sizes)) (now (a .links)) (now (a .marks)) (now (a .deeps)) (a .s) in
-    refused (a .q) b (c .before .refusal .result) (c .before .refusal .ensures) (c .if1 .taken)
+    refused (a .q) b (c .before .refusal .result) (c .before .refusal .ensures b refl (refl, refl, refl, refl, refl, refl, refl)) (c .if1 .taken)
 
 enum-known-q : tie.Need-enum-known-q
 enum-known-q c = c .match .keys1
 
 getm-requires : tie.Need-getm-requires
 getm-requires c κs =
-    let a = c .before .before .before .before .before .before .before .before .before .before .before .before .before .before .before .before .before .before .before .before .before .before .before .before .before .before .args in
+    let a = c .before .before .before .before .before .before .before .before .before .before .before .before .before .before .before .before .before .before .before .args in
     let b : Box = boxed (now (a .words)) (now (a .flags)) (now (a .addresses)) (now (a .sizes)) (now (a .links)) (now (a .marks)) (now (a .deeps)) (a .s) in
-    let k = not-refused (a .q) b (c .before .before .before .before .before .before .before .before .before .before .before .refusal .result) (c .before .before .before .before .before .before .before .before .before .before .before .refusal .ensures) (c .before .before .before .before .before .before .before .before .before .before .if1 .left) in
+    let k = not-refused (a .q) b (c .before .before .before .before .before .before .before .before .before .before .before .refusal .result) (c .before .before .before .before .before .before .before .before .before .before .before .refusal .ensures b refl (refl, refl, refl, refl, refl, refl, refl)) (c .before .before .before .before .before .before .before .before .before .before .if1 .left) in
     (k .0, right-getm (a .q) _ _ _ (c .before .before .before .before .before .before .before .before .q .given .1) (k .1))
 
 enum-known-q-2 : tie.Need-enum-known-q-2
@@ -53,53 +32,80 @@ enum-known-q-2 c = c .match .keys2
 
 store-requires : tie.Need-store-requires
 store-requires c κs =
-    let a = c .before .before .before .before .before .before .before .before .before .before .before .before .before .before .before .before .before .before .before .before .before .before .before .before .before .before .args in
+    let a = c .before .before .before .before .before .before .before .before .before .before .before .before .before .before .before .before .before .before .before .args in
     let b : Box = boxed (now (a .words)) (now (a .flags)) (now (a .addresses)) (now (a .sizes)) (now (a .links)) (now (a .marks)) (now (a .deeps)) (a .s) in
-    let k = not-refused (a .q) b (c .before .before .before .before .before .before .before .before .before .before .before .refusal .result) (c .before .before .before .before .before .before .before .before .before .before .before .refusal .ensures) (c .before .before .before .before .before .before .before .before .before .before .if1 .left) in
+    let k = not-refused (a .q) b (c .before .before .before .before .before .before .before .before .before .before .before .refusal .result) (c .before .before .before .before .before .before .before .before .before .before .before .refusal .ensures b refl (refl, refl, refl, refl, refl, refl, refl)) (c .before .before .before .before .before .before .before .before .before .before .if1 .left) in
     let g = right-store (a .q) _ _ _ (c .before .before .before .before .before .before .before .before .q2 .given .1) (k .1) in
     (k .0, g .0, g .1)
 
 carry-out-requires : tie.Need-carry-out-requires
 carry-out-requires c κs =
-    let a = c .before .before .before .before .before .before .before .before .before .before .before .before .before .before .before .before .before .before .before .before .before .args in
+    let a = c .before .before .before .before .before .before .before .before .before .before .before .before .before .before .args in
     let b : Box = boxed (now (a .words)) (now (a .flags)) (now (a .addresses)) (now (a .sizes)) (now (a .links)) (now (a .marks)) (now (a .deeps)) (a .s) in
-    let k = not-refused (a .q) b (c .before .before .before .before .before .before .refusal .result) (c .before .before .before .before .before .before .refusal .ensures) (c .before .before .before .before .before .if1 .left) in
+    let k = not-refused (a .q) b (c .before .before .before .before .before .before .refusal .result) (c .before .before .before .before .before .before .refusal .ensures b refl (refl, refl, refl, refl, refl, refl, refl)) (c .before .before .before .before .before .if1 .left) in
     let l = sound-lengths b (k .0) in
     let o = c .before .before .before .before .match .keys3 in
     (l .words, l .flags, l .addresses, l .sizes, k .1, not-getm (a .q) o, not-store (a .q) o)
 
-same-length-8 : tie.Need-same-length-8
-same-length-8 c = c .before .before .before .before .before .before .before .before .before .before .before .before .getm .kept .1 .1 .1 .1 .0
+same-length : tie.Need-same-length
+same-length c = c .before .before .before .before .before .before .before .before .before .before .before .before .getm .kept .1 .1 .1 .1 .0
 
-same-length-9 : tie.Need-same-length-9
-same-length-9 c = c .before .before .before .before .before .before .before .before .before .before .before .before .getm .kept .1 .1 .1 .1 .1 .0
+same-length-2 : tie.Need-same-length-2
+same-length-2 c = c .before .before .before .before .before .before .before .before .before .before .before .before .getm .kept .1 .1 .1 .1 .1 .0
 
-same-length-10 : tie.Need-same-length-10
-same-length-10 c = c .before .before .before .before .before .before .before .before .before .before .before .before .getm .kept .1 .1 .1 .1 .1 .1 .0
+same-length-3 : tie.Need-same-length-3
+same-length-3 c = c .before .before .before .before .before .before .before .before .before .before .before .before .getm .kept .1 .1 .1 .1 .1 .1 .0
 
-same-length-11 : tie.Need-same-length-11
-same-length-11 c = c .before .before .before .before .before .before .before .before .before .before .before .before .getm .kept .1 .1 .1 .1 .1 .1 .1 .0
+same-length-4 : tie.Need-same-length-4
+same-length-4 c = c .before .before .before .before .before .before .before .before .before .before .before .before .getm .kept .1 .1 .1 .1 .1 .1 .1 .0
 
-same-length-12 : tie.Need-same-length-12
-same-length-12 c = refl
+same-length-5 : tie.Need-same-length-5
+same-length-5 c = refl
 
-same-length-13 : tie.Need-same-length-13
-same-length-13 c = c .before .before .before .before .before .before .before .before .before .before .before .before .getm .kept .1 .1 .1 .1 .1 .1 .1 .1 .1 .0
+same-length-6 : tie.Need-same-length-6
+same-length-6 c = c .before .before .before .before .before .before .before .before .before .before .before .before .getm .kept .1 .1 .1 .1 .1 .1 .1 .1 .1 .0
 
-same-length-14 : tie.Need-same-length-14
-same-length-14 c = c .before .before .before .before .before .before .before .before .before .before .before .before .getm .kept .1 .1 .1 .1 .1 .1 .1 .1 .1 .1 .0
+same-length-7 : tie.Need-same-length-7
+same-length-7 c = c .before .before .before .before .before .before .before .before .before .before .before .before .getm .kept .1 .1 .1 .1 .1 .1 .1 .1 .1 .1 .0
 
 returns-2 : tie.Need-returns-2
 returns-2 c =
-    let a = c .before .before .before .before .before .before .before .before .before .before .before .before .before .before .before .before .before .before .before .before .before .before .before .before .before .before .before .before .before .before .before .before .before .before .before .before .before .before .before .args in
+    let a = c .before .before .before .before .before .before .before .before .before .before .before .before .before .before .before .before .before .before .before .before .before .before .before .before .before .before .before .before .before .before .before .before .args in
     let b : Box = boxed (now (a .words)) (now (a .flags)) (now (a .addresses)) (now (a .sizes)) (now (a .links)) (now (a .marks)) (now (a .deeps)) (a .s) in
-    carried (a .q) b (c .before .before .before .before .before .before .before .before .before .before .before .before .before .before .before .before .before .before .before .before .before .before .before .before .refusal .result) _ (c .before .before .before .before .before .before .before .before .before .before .before .before .before .before .before .before .before .before .before .before .before .before .before .before .refusal .ensures) (c .before .before .before .before .before .before .before .before .before .before .before .before .before .before .before .before .before .before .before .before .before .before .before .if1 .left) (does-getm (a .q) _ _ _ (c .before .before .before .before .before .before .before .before .before .before .before .before .before .before .before .before .before .before .before .before .before .q .given .1) b _ (c .before .before .before .before .before .before .before .before .before .before .before .before .getm .ensures))
+    carried (a .q) b (c .before .before .before .before .before .before .before .before .before .before .before .before .before .before .before .before .before .before .before .before .before .before .before .before .refusal .result) _ (c .before .before .before .before .before .before .before .before .before .before .before .before .before .before .before .before .before .before .before .before .before .before .before .before .refusal .ensures b refl (refl, refl, refl, refl, refl, refl, refl)) (c .before .before .before .before .before .before .before .before .before .before .before .before .before .before .before .before .before .before .before .before .before .before .before .if1 .left) (does-getm (a .q) _ _ _ (c .before .before .before .before .before .before .before .before .before .before .before .before .before .before .before .before .before .before .before .before .before .q .given .1) b _ (c .before .before .before .before .before .before .before .before .before .before .before .before .getm .ensures))
+
+same-length-8 : tie.Need-same-length-8
+same-length-8 c = c .before .before .before .before .before .before .before .before .before .before .store .kept .1 .1 .1 .1 .0
+
+same-length-9 : tie.Need-same-length-9
+same-length-9 c = c .before .before .before .before .before .before .before .before .before .before .store .kept .1 .1 .1 .1 .1 .0
+
+same-length-10 : tie.Need-same-length-10
+same-length-10 c = refl
+
+same-length-11 : tie.Need-same-length-11
+same-length-11 c = refl
+
+same-length-12 : tie.Need-same-length-12
+same-length-12 c = c .before .before .before .before .before .before .before .before .before .before .store .kept .1 .1 .1 .1 .1 .1 .1 .1 .0
+
+same-length-13 : tie.Need-same-length-13
+same-length-13 c = c .before .before .before .before .before .before .before .before .before .before .store .kept .1 .1 .1 .1 .1 .1 .1 .1 .1 .0
+
+same-length-14 : tie.Need-same-length-14
+same-length-14 c = c .before .before .before .before .before .before .before .before .before .before .store .kept .1 .1 .1 .1 .1 .1 .1 .1 .1 .1 .0
+
+returns-3 : tie.Need-returns-3
+returns-3 c =
+    let a = c .before .before .before .before .before .before .before .before .before .before .before .before .before .before .before .before .before .before .before .before .before .before .before .before .before .before .before .before .before .before .args in
+    let b : Box = boxed (now (a .words)) (now (a .flags)) (now (a .addresses)) (now (a .sizes)) (now (a .links)) (now (a .marks)) (now (a .deeps)) (a .s) in
+    carried (a .q) b (c .before .before .before .before .before .before .before .before .before .before .before .before .before .before .before .before .before .before .before .before .before .before .refusal .result) _ (c .before .before .before .before .before .before .before .before .before .before .before .before .before .before .before .before .before .before .before .before .before .before .refusal .ensures b refl (refl, refl, refl, refl, refl, refl, refl)) (c .before .before .before .before .before .before .before .before .before .before .before .before .before .before .before .before .before .before .before .before .before .if1 .left) (does-store (a .q) _ _ _ (c .before .before .before .before .before .before .before .before .before .before .before .before .before .before .before .before .before .before .before .q2 .given .1) b _ (c .before .before .before .before .before .before .before .before .before .before .store .ensures))
 
 same-length-15 : tie.Need-same-length-15
-same-length-15 c = c .before .before .before .before .before .before .before .before .before .before .store .kept .1 .1 .1 .1 .0
+same-length-15 c = refl
 
 same-length-16 : tie.Need-same-length-16
-same-length-16 c = c .before .before .before .before .before .before .before .before .before .before .store .kept .1 .1 .1 .1 .1 .0
+same-length-16 c = refl
 
 same-length-17 : tie.Need-same-length-17
 same-length-17 c = refl
@@ -107,53 +113,23 @@ same-length-17 c = refl
 same-length-18 : tie.Need-same-length-18
 same-length-18 c = refl
 
-same-length-19 : tie.Need-same-length-19
-same-length-19 c = c .before .before .before .before .before .before .before .before .before .before .store .kept .1 .1 .1 .1 .1 .1 .1 .1 .0
-
-same-length-20 : tie.Need-same-length-20
-same-length-20 c = c .before .before .before .before .before .before .before .before .before .before .store .kept .1 .1 .1 .1 .1 .1 .1 .1 .1 .0
-
-same-length-21 : tie.Need-same-length-21
-same-length-21 c = c .before .before .before .before .before .before .before .before .before .before .store .kept .1 .1 .1 .1 .1 .1 .1 .1 .1 .1 .0
-
-returns-3 : tie.Need-returns-3
-returns-3 c =
-    let a = c .before .before .before .before .before .before .before .before .before .before .before .before .before .before .before .before .before .before .before .before .before .before .before .before .before .before .before .before .before .before .before .before .before .before .before .before .before .args in
-    let b : Box = boxed (now (a .words)) (now (a .flags)) (now (a .addresses)) (now (a .sizes)) (now (a .links)) (now (a .marks)) (now (a .deeps)) (a .s) in
-    carried (a .q) b (c .before .before .before .before .before .before .before .before .before .before .before .before .before .before .before .before .before .before .before .before .before .before .refusal .result) _ (c .before .before .before .before .before .before .before .before .before .before .before .before .before .before .before .before .before .before .before .before .before .before .refusal .ensures) (c .before .before .before .before .before .before .before .before .before .before .before .before .before .before .before .before .before .before .before .before .before .if1 .left) (does-store (a .q) _ _ _ (c .before .before .before .before .before .before .before .before .before .before .before .before .before .before .before .before .before .before .before .q2 .given .1) b _ (c .before .before .before .before .before .before .before .before .before .before .store .ensures))
-
-same-length-22 : tie.Need-same-length-22
-same-length-22 c = refl
-
-same-length-23 : tie.Need-same-length-23
-same-length-23 c = refl
-
-same-length-24 : tie.Need-same-length-24
-same-length-24 c = refl
-
-same-length-25 : tie.Need-same-length-25
-same-length-25 c = refl
-
-same-length-26 : tie.Need-same-length-26
-same-length-26 c = refl
-
-same-length-27 : tie.Need-same-length-27
-same-length-27 c = refl
-
-same-length-28 : tie.Need-same-length-28
-same-length-28 c = refl
-
 returns-4 : tie.Need-returns-4
 returns-4 c =
-    let a = c .before .before .before .before .before .before .before .before .before .before .before .before .before .before .before .before .before .before .before .before .before .before .args in
+    let a = c .before .before .before .before .before .before .before .before .before .before .before .before .before .before .before .args in
     let b : Box = boxed (now (a .words)) (now (a .flags)) (now (a .addresses)) (now (a .sizes)) (now (a .links)) (now (a .marks)) (now (a .deeps)) (a .s) in
-    carried (a .q) b (c .before .before .before .before .before .before .before .refusal .result) _ (c .before .before .before .before .before .before .before .refusal .ensures) (c .before .before .before .before .before .before .if1 .left) (c .carry-out .ensures (now (a .links)) (now (a .marks)) (now (a .deeps)))
+    carried (a .q) b (c .before .before .before .before .before .before .before .refusal .result) _ (c .before .before .before .before .before .before .before .refusal .ensures b refl (refl, refl, refl, refl, refl, refl, refl)) (c .before .before .before .before .before .before .if1 .left) (c .carry-out .ensures (now (a .links)) (now (a .marks)) (now (a .deeps)))
 
 pub request-spec : {M : Type 1} → statement M
 request-spec =
     tie.close
     (tie.spec
     refusal-requires
+    returns
+    enum-known-q
+    getm-requires
+    enum-known-q-2
+    store-requires
+    carry-out-requires
     same-length
     same-length-2
     same-length-3
@@ -161,12 +137,7 @@ request-spec =
     same-length-5
     same-length-6
     same-length-7
-    returns
-    enum-known-q
-    getm-requires
-    enum-known-q-2
-    store-requires
-    carry-out-requires
+    returns-2
     same-length-8
     same-length-9
     same-length-10
@@ -174,20 +145,9 @@ request-spec =
     same-length-12
     same-length-13
     same-length-14
-    returns-2
+    returns-3
     same-length-15
     same-length-16
     same-length-17
     same-length-18
-    same-length-19
-    same-length-20
-    same-length-21
-    returns-3
-    same-length-22
-    same-length-23
-    same-length-24
-    same-length-25
-    same-length-26
-    same-length-27
-    same-length-28
     returns-4)

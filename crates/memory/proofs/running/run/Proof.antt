@@ -28,10 +28,10 @@ choose-requires-2 c κs = tt
 
 loop-holds : tie.Need-loop-holds Inv-loop μ-loop
 loop-holds c =
-    let x = c .before .before .before .before .before .before .before .before .before .before .before .before .before .before .before .before .before .args in
+    let x = c .before .before .before .before .before .before .before .before .before .before .args in
     let b : Box = boxed (x .words .now) (x .flags .now) (x .addresses .now) (x .sizes .now) (x .links .now) (x .marks .now) (x .deeps .now) (x .s) in
     let l = start-fits (x .budget) (c .before .before .sound .result) (c .before .choose .result) (c .before .choose .ensures) in
-    (l, refl, refl, refl, refl, refl, refl, refl, on-starts (x .budget) b (c .before .before .sound .result) (c .before .choose .result) (c .choose2 .result) (c .before .before .sound .ensures) (c .before .choose .ensures) (c .choose2 .ensures))
+    (l, refl, refl, refl, refl, refl, refl, refl, on-starts (x .budget) b (c .before .before .sound .result) (c .before .choose .result) (c .choose2 .result) (c .before .before .sound .ensures b refl (refl, refl, refl, refl, refl, refl, refl)) (c .before .choose .ensures) (c .choose2 .ensures))
 
 step-requires : tie.Need-step-requires Inv-loop μ-loop
 step-requires c κs = tt
@@ -50,7 +50,7 @@ add-choose : tie.Need-add-choose Inv-loop μ-loop
 add-choose c =
     let p = c .before .before .before .before .before .before .before .before .before .before .before .before .before .before .before .before .before .before .before .before .before .before .before .before .before .before in
     let x = p .loop in
-    let q = p .before .before .before .before .before .before .before .before .before .before .before .before .before .before .before .before .before .before in
+    let q = p .before .before .before .before .before .before .before .before .before .before .before in
     let f : q .args .budget < 2 ^ 32 = q .fits .budget .fits in
     let g : x .steps + 1 < 2 ^ 32 = room-left (x .steps) (x .left) (q .args .budget) (2 ^ 32) (c .before .before .before .before .before .before .before .before .before .before .before .before .before .before .before .before .before .before .before .before .before .before .before .before .before .loop-test .taken) (x .inv .0) f in
     record { fits = g }
@@ -62,7 +62,7 @@ loop-less : tie.Need-loop-less Inv-loop μ-loop
 loop-less c =
     let p = c .before .before .before .before .before .before .before .before .before .before .before .before .before .before .before .before .before .before .before .before .before .before .before .before .before .before .before in
     let x = p .loop in
-    on-fits (p .before .before .before .before .before .before .before .before .before .before .before .before .before .before .before .before .before .before .args .budget) (x .steps) (x .left) (c .before .before .outcome .result) (c .before .choose3 .result) (c .choose4 .result) (c .before .before .before .before .before .before .before .before .before .before .before .before .before .before .before .before .before .before .before .before .before .before .before .before .before .before .loop-test .taken) (x .inv .0) (c .before .choose3 .ensures) (c .choose4 .ensures) .1
+    on-fits (p .before .before .before .before .before .before .before .before .before .before .before .args .budget) (x .steps) (x .left) (c .before .before .outcome .result) (c .before .choose3 .result) (c .choose4 .result) (c .before .before .before .before .before .before .before .before .before .before .before .before .before .before .before .before .before .before .before .before .before .before .before .before .before .before .loop-test .taken) (x .inv .0) (c .before .choose3 .ensures) (c .choose4 .ensures) .1
 
 loop-again : tie.Need-loop-again Inv-loop μ-loop
 loop-again c =
@@ -70,7 +70,7 @@ loop-again c =
     let t = a .before .before .before .before .before .before .before .before in
     let p = t .before in
     let x = p .loop in
-    let q = p .before .before .before .before .before .before .before .before .before .before .before .before .before .before .before .before .before .before .args in
+    let q = p .before .before .before .before .before .before .before .before .before .before .before .args in
     let b : Box = boxed (x .words) (x .flags) (x .addresses) (x .sizes) (x .links) (x .marks) (x .deeps) (x .s) in
     let o = c .before .before .outcome .result in
     let k = a .step .kept in

@@ -1,11 +1,9 @@
 -- `sound::right_sizes` meets its contract: the definition computes with what the two callees ensure. Assumes nothing.
-use borrow.Author.Needs.{needs}
-use mathlib.Core.Path.{sym, _∙_}
+use mathlib.Core.Path.{sym}
 use Rattle.memory.specs.Box.{right-sizes}
+use borrow.Author.Needs.{needs}
 use Rattle.memory.proofs.sound.right_sizes.Statement.{statement}
 use Rattle.memory.proofs.sound.right_sizes.Tie as tie
-use Rattle.memory.proofs.sound.right_sizes.Reads as reads
-use Rattle.memory.proofs.sound.right_sizes.Lts as lts
 
 in-range-requires : tie.Need-in-range-requires
 in-range-requires c κs = search needs
@@ -15,11 +13,17 @@ lengths-are-requires c κs = search needs
 
 returns : tie.Need-returns
 unfolding right-sizes
-returns c s = simp (sym (c .before .before .in-range .ensures), c .before .if1 .taken, c .lengths-are .ensures s)
+returns c b q = simp (sym (c .before .before .in-range .ensures), c .before .if1 .taken, c .lengths-are .ensures b q)
 
 returns-2 : tie.Need-returns-2
 unfolding right-sizes
-returns-2 c s = simp (sym (c .before .in-range .ensures), c .if1 .left)
+returns-2 c b q = simp (sym (c .before .in-range .ensures), c .if1 .left)
 
 pub right-sizes-spec : {M : Type 1} → statement M
-right-sizes-spec = tie.close (tie.spec in-range-requires lengths-are-requires returns returns-2)
+right-sizes-spec =
+    tie.close
+    (tie.spec
+    in-range-requires
+    lengths-are-requires
+    returns
+    returns-2)
