@@ -90,10 +90,6 @@ functions! {
     gloamish_open(m: u32, h: u32) -> u32;
     gloamish_request(kind: u32, a: u32, b: u32, c: u32) -> u32;
     gloamish_step() -> u32;
-}
-
-#[cfg(feature = "run")]
-functions! {
     gloamish_run(budget: u32) -> u64;
 }
 
@@ -252,7 +248,6 @@ impl Lent {
     }
 
     /// Steps times 256, and the answer.
-    #[cfg(feature = "run")]
     pub fn run(&mut self, budget: u32) -> u64 {
         lend!(self, gloamish_run(budget))
     }

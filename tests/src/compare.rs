@@ -20,9 +20,6 @@ pub enum Ask {
 
 /// A machine that can be held against the second program.
 pub trait Machine {
-    /// False if the machine has no runs.
-    const RUNS: bool;
-
     fn of(unit: &Unit) -> Self;
 
     /// Takes over a box, in the buffers at hand.
@@ -38,8 +35,6 @@ pub trait Machine {
 }
 
 impl Machine for Lent {
-    const RUNS: bool = cfg!(feature = "run");
-
     fn of(unit: &Unit) -> Lent {
         Lent::of(unit)
     }
@@ -53,10 +48,7 @@ impl Machine for Lent {
             Ask::Open(m, h) => self.open(m, h).into(),
             Ask::Request(request) => self.request(capi::numbers(request)).into(),
             Ask::Step => self.step().into(),
-            #[cfg(feature = "run")]
             Ask::Run(budget) => self.run(budget),
-            #[cfg(not(feature = "run"))]
-            Ask::Run(_) => unreachable!("the library has no runs"),
         }
     }
 
@@ -70,8 +62,6 @@ impl Machine for Lent {
 }
 
 impl Machine for Player {
-    const RUNS: bool = true;
-
     fn of(unit: &Unit) -> Player {
         Player::of(unit)
     }
@@ -121,6 +111,15 @@ pub fn second(unit: &mut Unit, fault: Fault, ask: Ask) -> u64 {
     }
 }
 
+/// What a run can answer.
+pub const RUN_ANSWERS: [u32; 4] = [DONE, FAILED, DAMAGED, SPENT];
+
+/// Where an answer of a run stands among them.
+pub fn run_column(answer: u32) -> usize {
+    let column = RUN_ANSWERS.iter().position(|known| *known == answer);
+    column.unwrap_or_else(|| panic!("a run answered {answer}"))
+}
+
 /// How often each answer came, and where.
 #[derive(Clone, Debug)]
 pub struct Counts {
@@ -130,6 +129,8 @@ pub struct Counts {
     pub phases: [[u64; 2]; 9],
     /// Requests of each kind that were done, and that weren't.
     pub kinds: [[u64; 2]; 10],
+    /// Runs with nothing held and while held that answered 0, 8, 9 and 11.
+    pub runs: [[u64; 4]; 2],
     /// Ends of a cycle that answered 9 only for the register of the hold.
     pub bad_holds: u64,
 }
@@ -141,6 +142,7 @@ impl Default for Counts {
             answers: [0; 34],
             phases: [[0; 2]; 9],
             kinds: [[0; 2]; 10],
+            runs: [[0; 4]; 2],
             bad_holds: 0,
         }
     }
@@ -163,6 +165,9 @@ impl Counts {
                 let kind = capi::numbers(request)[0] as usize - 1;
                 self.kinds[kind][usize::from(answer != 0)] += 1;
             }
+            Ask::Run(_) => {
+                self.runs[usize::from(before.hold.held)][run_column(answer as u32)] += 1;
+            }
             _ => {}
         }
     }
@@ -182,6 +187,10 @@ impl Counts {
             "{name}: requests by kind [done, not done] {}",
             kinds.join(" ")
         );
+        println!(
+            "{name}: runs by answer {RUN_ANSWERS:?}: nothing held {:?}, held {:?}",
+            self.runs[0], self.runs[1]
+        );
         if self.bad_holds > 0 {
             println!("{name}: bad register in a hold {} times", self.bad_holds);
         }
@@ -189,7 +198,7 @@ impl Counts {
 
     /// Every answer of a grown box must have come, and 9 must not.
     pub fn grown(&self) {
-        for answer in (0..=8).chain(30..=33) {
+        for answer in (0..=8).chain([11]).chain(30..=33) {
             assert!(self.answers[answer] > 0, "answer {answer} never came");
         }
         assert_eq!(self.answers[9], 0);
@@ -198,7 +207,7 @@ impl Counts {
     /// Every answer must have come, 9 both given and not given in each phase,
     /// and each kind both done and not.
     pub fn any(&self) {
-        for answer in (0..=10).chain(30..=33) {
+        for answer in (0..=11).chain(30..=33) {
             assert!(self.answers[answer] > 0, "answer {answer} never came");
         }
         for (phase, [nine, not]) in self.phases.iter().enumerate() {
@@ -251,13 +260,12 @@ impl<M: Machine> Pair<M> {
         Ok(answer)
     }
 
-    /// A call of a list. A run is done as single steps where the machine has
-    /// none, and half the time where it has.
+    /// A call of a list. A run is done as single steps half the time.
     pub fn call(&mut self, rng: &mut Rng, call: Call) -> Result<(), String> {
         match call {
             Call::Request(request) => self.ask(Ask::Request(request)).map(drop),
             Call::Step => self.ask(Ask::Step).map(drop),
-            Call::Run(budget) if M::RUNS && rng.percent(50) => {
+            Call::Run(budget) if rng.percent(50) => {
                 // A planted fault may keep the collector from ever stopping.
                 let budget = match self.fault {
                     Fault::None => budget,
@@ -342,7 +350,7 @@ pub fn list<M: Machine>(
 }
 
 /// A call on a state as it is.
-pub fn any_ask(rng: &mut Rng, unit: &Unit, runs: bool) -> Ask {
+pub fn any_ask(rng: &mut Rng, unit: &Unit) -> Ask {
     match rng.below(20) {
         0 => {
             let m = rng.pick(&[unit.state.m, unit.words.len() as u32, 16, 8193]);
@@ -351,8 +359,8 @@ pub fn any_ask(rng: &mut Rng, unit: &Unit, runs: bool) -> Ask {
         }
         // Lists bent into rings can keep the collector busy for ever, so
         // budgets are small.
-        1 | 2 if runs => Ask::Run(rng.below(60)),
-        1..=11 => Ask::Step,
+        1 | 2 => Ask::Run(rng.below(60)),
+        3..=11 => Ask::Step,
         _ => Ask::Request(random::any_request(rng, unit)),
     }
 }
@@ -384,7 +392,7 @@ pub fn states<M: Machine>(
         pair.take(&unit);
         change(rng, &mut pair.unit, &mut pair.machine);
         let before = pair.unit.clone();
-        let ask = any_ask(rng, &before, M::RUNS);
+        let ask = any_ask(rng, &before);
         let at = pair.counts.calls;
         let answer = pair
             .ask(ask)

@@ -139,7 +139,6 @@ enum Raw {
     Open(u32, u32),
     Request([u32; 4]),
     Step,
-    #[cfg(feature = "run")]
     Run(u32),
 }
 
@@ -148,7 +147,6 @@ fn send(lent: &mut Lent, raw: Raw) -> u64 {
         Raw::Open(m, h) => lent.open(m, h).into(),
         Raw::Request(numbers) => lent.request(numbers).into(),
         Raw::Step => lent.step().into(),
-        #[cfg(feature = "run")]
         Raw::Run(budget) => lent.run(budget),
     }
 }
@@ -189,10 +187,9 @@ fn a_state_of_another_length() {
         Raw::Open(16, 4),
         Raw::Open(0, 0),
         Raw::Step,
-        #[cfg(feature = "run")]
         Raw::Run(0),
-        #[cfg(feature = "run")]
         Raw::Run(10),
+        Raw::Run(u32::MAX),
         Raw::Request([1, 0, 5, 0]),
         Raw::Request([5, 0, 1, 7]),
         Raw::Request([2, 8, 0, 0]),
@@ -285,6 +282,8 @@ fn other_numbers_for_the_same_state() {
     let asks = [
         Ask::Open(15, 4),
         Ask::Step,
+        Ask::Run(0),
+        Ask::Run(20),
         Ask::Request(Request::Nil { r: 8 }),
         Ask::Request(Request::Same { r: 0, s: 1, t: 2 }),
         Ask::Request(Request::Store { r: 0, s: 1, k: 0 }),
@@ -338,9 +337,6 @@ fn numbers_and_back() {
 #[test]
 fn planted_faults_are_noticed() {
     for fault in Fault::ALL {
-        if fault == Fault::RunCountsMore && !cfg!(feature = "run") {
-            continue;
-        }
         let seed = 319;
         let mut rng = Rng::new(seed);
         let mut pair: Pair<Lent> = Pair::new(Unit::lent(16, 2), fault);

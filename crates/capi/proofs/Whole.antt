@@ -1,6 +1,6 @@
 -- What a call of the interface leaves: where the numbers are understood, the memory unit's reply encoded; otherwise all as it was.
 -- Assumes nothing.
-use Prim.Native.Nat.{ℕ}
+use Prim.Native.Nat.{ℕ, _+_, _*_}
 use mathlib.Core.Path.{_≡_, refl, sym, ap, _∙_}
 use mathlib.Core.Bool.{Bool, true, false, cond}
 use mathlib.Core.List.{List}
@@ -10,19 +10,25 @@ use lib.ListN.{length}
 use borrow.Author.Tests.{eq-eqb, ne-eqb}
 use Rattle.memory.specs.declared.state.State.{State}
 use Rattle.memory.specs.declared.kinds.Request.{Request}
-use Rattle.memory.specs.Box.{Box, Reply}
+use Rattle.memory.specs.Box.{Box, Reply, reply}
 use Rattle.memory.specs.Boxed.{boxed}
 use Rattle.memory.specs.Request as memory-request
+use Rattle.memory.specs.Run.{Ran, run}
 use Rattle.capi.specs.declared.asked.Asked.{Asked}
 use Rattle.capi.specs.declared.asked.Asked.the-variants.{Known, Unknown}
 use Rattle.capi.specs.Wire.{state-length, not-understood, decoded, encoded}
-use Rattle.capi.specs.Calls.{Lent, Answer, left, right-length, boxed-of, answered, left-alone, c-asked}
+use Rattle.capi.specs.Calls.{Lent, Answer, left, right-length, boxed-of, answered, left-alone, ran-reply, c-asked}
 use Rattle.capi.specs.Asked.{asked-as}
 
 -- a reply of the memory unit to the decoded state, encoded
 pub understood : (f : Box → Reply) (l : Lent) (s : State) (r : Reply) (st : List ℕ) → length (l .state) ≡ state-length → s ≡ decoded (l .state) → r ≡ f (boxed (l .words) (l .flags) (l .addresses) (l .sizes) (l .links) (l .marks) (l .deeps) s) → st ≡ encoded (r .box .state) → left st (r .box .words) (r .box .flags) (r .box .addresses) (r .box .sizes) (r .box .links) (r .box .marks) (r .box .deeps) (r .answer) ≡ cond (right-length l) (answered (f (boxed-of l))) (left-alone l)
 unfolding answered boxed-of
 understood f l s r st e d p q = rw (eq-eqb (length (l .state)) state-length e, q) (ap answered (p ∙ ap (λ (t : State). f (boxed (l .words) (l .flags) (l .addresses) (l .sizes) (l .links) (l .marks) (l .deeps) t)) d))
+
+-- the same for a run, whose steps and answer are one number
+pub understood-run : (budget : ℕ) (l : Lent) (s : State) (r : Ran) (st : List ℕ) (n a : ℕ) → length (l .state) ≡ state-length → s ≡ decoded (l .state) → r ≡ run budget (boxed (l .words) (l .flags) (l .addresses) (l .sizes) (l .links) (l .marks) (l .deeps) s) → st ≡ encoded (r .box .state) → n ≡ r .steps → a ≡ r .answer → left st (r .box .words) (r .box .flags) (r .box .addresses) (r .box .sizes) (r .box .links) (r .box .marks) (r .box .deeps) (n * 256 + a) ≡ cond (right-length l) (answered (ran-reply budget (boxed-of l))) (left-alone l)
+unfolding ran-reply
+understood-run budget l s r st n a e d p q u v = understood (ran-reply budget) l s (reply (r .box) (n * 256 + a)) st e d (rw (u, v) (ap (λ (x : Ran). reply (x .box) (x .steps * 256 + x .answer)) p)) q
 
 -- a state of another length
 pub wrong-length : (l : Lent) (x : Answer) → (length (l .state) ≡ state-length → ⊥) → left (l .state) (l .words) (l .flags) (l .addresses) (l .sizes) (l .links) (l .marks) (l .deeps) not-understood ≡ cond (right-length l) x (left-alone l)

@@ -1,6 +1,6 @@
 -- What each function of the C interface does: it decodes the state, makes the call of the memory unit, and encodes the state that
 -- comes back; what is not understood changes nothing.
-use Prim.Native.Nat.{ℕ, zero, suc, _+_}
+use Prim.Native.Nat.{ℕ, zero, suc, _+_, _*_}
 use mathlib.Core.Bool.{Bool, true, false, cond, _&&_}
 use mathlib.Core.List.{List}
 use mathlib.Core.Option.{Option, none, some}
@@ -8,10 +8,11 @@ use lib.Dec.{eqb, ltb}
 use lib.ListN.{length}
 use Rattle.memory.specs.declared.kinds.Request.{Request}
 use Rattle.memory.specs.declared.kinds.Request.the-variants.{Setd, Nil, Move, Advance, Getm, Load, Store, Size, Tag, Same}
-use Rattle.memory.specs.Box.{Box, Reply}
+use Rattle.memory.specs.Box.{Box, Reply, reply}
 use Rattle.memory.specs.Request as memory-request
 use Rattle.memory.specs.Collector as memory-collector
 use Rattle.memory.specs.Open as memory-open
+use Rattle.memory.specs.Run as memory-run
 use Rattle.capi.specs.Wire.{state-length, not-understood, decoded, encoded}
 
 -- the lent numbers of the state, the seven columns, and the answer
@@ -60,6 +61,13 @@ right-length l = eqb (length (l .state)) state-length
 
 unfoldable pub c-open : ℕ → ℕ → Lent → Answer
 c-open m h l = cond (right-length l) (answered (memory-open.opening m h (boxed-of l))) (left-alone l)
+
+-- a run's box, and its steps and its answer in one number
+unfoldable pub ran-reply : ℕ → Box → Reply
+ran-reply budget b = reply (memory-run.run budget b .box) (memory-run.run budget b .steps * 256 + memory-run.run budget b .answer)
+
+unfoldable pub c-run : ℕ → Lent → Answer
+c-run budget l = cond (right-length l) (answered (ran-reply budget (boxed-of l))) (left-alone l)
 
 unfoldable pub c-step : Lent → Answer
 c-step l = cond (right-length l) (answered (memory-collector.step (boxed-of l))) (left-alone l)

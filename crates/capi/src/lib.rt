@@ -5,7 +5,8 @@ mod wire;
 
 use asked::Asked;
 ghost use mathlib.Core.Path.{_≡_};
-ghost use Rattle.capi.specs.Calls.{lent, left, c-open, c-request, c-step};
+ghost use Prim.Native.Nat.{_<_};
+ghost use Rattle.capi.specs.Calls.{lent, left, c-open, c-request, c-step, c-run};
 
 // How many numbers a state has.
 const STATE_LENGTH: usize = 36;
@@ -95,4 +96,49 @@ pub extern "C" fn gloamish_step(
     let after = done.state;
     wire::encode(after, state);
     done.answer
+}
+
+// A run with a budget of steps. Gives steps * 256 + answer, as `memory::run` has them; a state of another length than 36 gives
+// 4,294,967,295, and nothing is changed.
+#[no_mangle]
+pub extern "C" fn gloamish_run(
+    budget: u32,
+    state: &mut [u32],
+    words: &mut [u32],
+    flags: &mut [bool],
+    addresses: &mut [u32],
+    sizes: &mut [u32],
+    links: &mut [u32],
+    marks: &mut [bool],
+    deeps: &mut [bool],
+) -> u64
+    ensures { λ r. ⌜ left (now (state .exit)) (now (words .exit)) (now (flags .exit)) (now (addresses .exit)) (now (sizes .exit)) (now (links .exit)) (now (marks .exit)) (now (deeps .exit)) r ≡ c-run budget (lent (now (state .entry)) (now (words .entry)) (now (flags .entry)) (now (addresses .entry)) (now (sizes .entry)) (now (links .entry)) (now (marks .entry)) (now (deeps .entry))) ⌝ }
+{
+    if state.len() != STATE_LENGTH {
+        return wide(NOT_UNDERSTOOD);
+    }
+    let s = wire::decode(state);
+    let done = memory::run(
+        budget,
+        s,
+        words,
+        flags,
+        addresses,
+        sizes,
+        links,
+        marks,
+        deeps,
+    );
+    let after = done.state;
+    wire::encode(after, state);
+    let steps = done.steps;
+    let answer = done.answer;
+    wide(steps) * 256 + wide(answer)
+}
+
+// A number of 32 bits as one of 64.
+fn wide(x: u32) -> u64
+    ensures { λ r. ⌜ (r ≡ x) × (r < 4294967296) ⌝ }
+{
+    x as u64
 }

@@ -155,6 +155,44 @@ impl Bench {
         }
     }
 
+    // A run with a budget of steps; writes how many it did and its answer.
+    pub(crate) fn budget(self, most: u32) -> Bench {
+        let mut words = self.words;
+        let mut flags = self.flags;
+        let mut addresses = self.addresses;
+        let mut sizes = self.sizes;
+        let mut links = self.links;
+        let mut marks = self.marks;
+        let mut deeps = self.deeps;
+        let before = self.state;
+        let done = memory::run(
+            most,
+            before,
+            &mut words,
+            &mut flags,
+            &mut addresses,
+            &mut sizes,
+            &mut links,
+            &mut marks,
+            &mut deeps,
+        );
+        io::write_all(1, b" steps");
+        number(done.steps);
+        number(done.answer);
+        let state = done.state;
+        Bench {
+            state,
+            answer: done.answer,
+            words,
+            flags,
+            addresses,
+            sizes,
+            links,
+            marks,
+            deeps,
+        }
+    }
+
     // A request; writes its answer.
     pub(crate) fn ask(self, q: Request) -> Bench {
         let b = self.asked(q);

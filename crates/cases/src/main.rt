@@ -1,4 +1,4 @@
-// Runs the bench cases of document 01 that need no run with a budget, on the proved memory unit, each from an opening of 16 words
+// Runs the bench cases of document 01 on the proved memory unit, each from an opening of 16 words
 // and 4 entries. A case gives one line: its name, what each call answered, and what is then seen.
 mod bench;
 mod show;
@@ -31,10 +31,15 @@ fn second(b: Bench) -> Bench {
     first(b).ask(Request::Getm { r: 1, n: 1, tag: 0 })
 }
 
+// The calls of P3 up to its cycle.
+fn linked(b: Bench) -> Bench {
+    let stored = second(b).ask(Request::Store { r: 1, s: 0, k: 0 });
+    stored.ask(Request::Setd { r: 1, v: 0 })
+}
+
 // The calls of P3.
 fn third(b: Bench) -> Bench {
-    let stored = second(b).ask(Request::Store { r: 1, s: 0, k: 0 });
-    stored.ask(Request::Setd { r: 1, v: 0 }).run(CYCLE)
+    linked(b).run(CYCLE)
 }
 
 // The calls of P5 up to its cycle.
@@ -108,10 +113,18 @@ fn limits() {
     end(over.ask(Request::Advance { r: 0, n: 1 }).register(0));
 }
 
+// P3's cycle with a budget: one step too few, just enough, and none.
+fn budgets() {
+    end(linked(case(b"budget 9")).budget(9));
+    end(linked(case(b"budget 10")).budget(10));
+    end(linked(case(b"budget 0")).budget(0));
+}
+
 fn main() {
     tuples();
     cycles();
     moves();
     room();
     limits();
+    budgets();
 }

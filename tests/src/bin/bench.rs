@@ -15,7 +15,6 @@ use std::time::{Duration, Instant};
 
 use gloamish_tests::call::*;
 use gloamish_tests::capi;
-use gloamish_tests::compare::{Ask, Machine};
 use gloamish_tests::random::{self, Rng, Style};
 use gloamish_tests::{Lent, Player, Unit};
 
@@ -193,7 +192,7 @@ fn measure(name: &str, calls: &[Call]) -> bool {
         lent.open(M, H);
         through.turn(&numbers, |call| match call[0] {
             STEP => lent.step().into(),
-            RUN => lent.ask(Ask::Run(call[1])),
+            RUN => lent.run(call[1]),
             _ => lent.request(call).into(),
         });
         if plain.answers != through.answers || !lent.same(&player.unit()) {
@@ -227,10 +226,8 @@ fn main() -> ExitCode {
         ),
     ];
     let mut agreed = loads.iter().all(|(name, calls)| measure(name, calls));
-    if Lent::RUNS {
-        for (name, calls) in &loads[..3] {
-            agreed &= measure(&format!("{name}, steps as runs"), &as_runs(calls));
-        }
+    for (name, calls) in &loads[..3] {
+        agreed &= measure(&format!("{name}, steps as runs"), &as_runs(calls));
     }
     match agreed {
         true => ExitCode::SUCCESS,
