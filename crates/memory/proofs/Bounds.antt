@@ -8,6 +8,9 @@ use native.Mathlib.Omega.{arith}
 pub below : (i n length : ℕ) → length ≡ n → i < n → i < length
 below i n length e l = omega arith
 
+pub at-most : (length n m : ℕ) → length ≡ n → n ≤ m → length ≤ m
+at-most length n m e l = omega arith
+
 pub by-four : (i : ℕ) → i < 2 ^ 32 → i * 4 < 2 ^ 64
 by-four i l = omega arith
 

@@ -1,6 +1,6 @@
 -- STORE by its cases: whether its word is shaded, and what it leaves. By computing the definitions under the facts of each
 -- case. Assumes nothing.
-use Prim.Native.Nat.{ℕ, _≤_}
+use Prim.Native.Nat.{ℕ, _<_, _≤_}
 use mathlib.Core.Bool.{Bool, true, false, cond}
 use mathlib.Core.Path.{_≡_, refl, sym, _∙_, ap}
 use native.Mathlib.Omega.{arith}
@@ -63,6 +63,13 @@ shade-h h b x e = ap (λ (y : Box). y .state .h) e ∙ cond-h (marked h b) b _ _
 
 pub within-same : (p : code-place.Place) (m n : ℕ) → m ≡ n → Within p m → Within p n
 within-same p m n e w = rw e at w
+
+-- so that a place and the lengths that were right stay so
+pub kept-sizes : (h : ℕ) (b x : Box) → x ≡ shade h b → (l k d t : ℕ) (p : code-place.Place) → l ≡ b .state .m → k ≡ b .state .m → d ≡ b .state .h → t < b .state .h → Within p (b .state .m) → (l ≡ x .state .m) × (k ≡ x .state .m) × (d ≡ x .state .h) × (t < x .state .h) × Within p (x .state .m)
+kept-sizes h b x e l k d t p f g i j w =
+    let m = sym (shade-m h b x e) in
+    let n = sym (shade-h h b x e) in
+    (f ∙ m, g ∙ m, i ∙ n, rw n at j, within-same p (b .state .m) (x .state .m) m w)
 
 -- ---- the whole: y is the box when the target, of handle h, has been shaded
 

@@ -95,7 +95,7 @@ fn new_state(m: u32, h: u32) -> State
 pub fn open(
     m: u32,
     h: u32,
-    s: State,
+    mut s: State,
     words: &mut [u32],
     flags: &mut [bool],
     addresses: &mut [u32],
@@ -124,8 +124,11 @@ pub fn open(
         link_all(links);
         unset(marks);
         unset(deeps);
-        let state = new_state(m, h);
-        return Answered { state, answer: 0 };
+        s = new_state(m, h);
+        return Answered {
+            state: s,
+            answer: 0,
+        };
     }
     Answered {
         state: s,

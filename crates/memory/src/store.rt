@@ -53,7 +53,7 @@ impl State {
     // Stores a word at a place of tuple h, its target shaded first where it must be. Answers 0, or 9 where the target cannot be
     // shaded, and then nothing is changed.
     fn store_word(
-        self,
+        mut self,
         w: Word,
         h: u32,
         p: Place,
@@ -70,17 +70,23 @@ impl State {
         if self.shades(w) {
             let target = w.handle();
             if self.can_shade(target, sizes, marks) {
-                let shaded = self.shade(target, sizes, links, marks, deeps);
-                let state = shaded.put_word(w, h, p, words, flags, deeps);
-                return Answered { state, answer: 0 };
+                self = self.shade(target, sizes, links, marks, deeps);
+                self = self.put_word(w, h, p, words, flags, deeps);
+                return Answered {
+                    state: self,
+                    answer: 0,
+                };
             }
             return Answered {
                 state: self,
                 answer: 9,
             };
         }
-        let state = self.put_word(w, h, p, words, flags, deeps);
-        Answered { state, answer: 0 }
+        self = self.put_word(w, h, p, words, flags, deeps);
+        Answered {
+            state: self,
+            answer: 0,
+        }
     }
 
     // STORE: the word that s and k name takes register r. Answers 0, or what refuses it, and then nothing is changed.

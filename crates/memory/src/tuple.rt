@@ -143,7 +143,7 @@ impl State {
     // GETM: a new tuple of n words, and r points to it. Answers 0; 5 where n + 1 is above M; 7 where there is no room, and then
     // only the hold is set; 9 where it cannot be made.
     pub(crate) fn getm(
-        self,
+        mut self,
         r: u16,
         n: u16,
         tag: u16,
@@ -167,11 +167,14 @@ impl State {
             };
         }
         if self.no_room(n) {
-            let state = self.put_on_hold(r, n, tag);
-            return Answered { state, answer: 7 };
+            self = self.put_on_hold(r, n, tag);
+            return Answered {
+                state: self,
+                answer: 7,
+            };
         }
         if self.can_make(n) {
-            let state = self.new_tuple(
+            self = self.new_tuple(
                 r,
                 n,
                 tag,
@@ -183,7 +186,10 @@ impl State {
                 marks,
                 deeps,
             );
-            return Answered { state, answer: 0 };
+            return Answered {
+                state: self,
+                answer: 0,
+            };
         }
         Answered {
             state: self,

@@ -1,7 +1,7 @@
 -- `requests::request` meets its contract: by what refuses the request, and then by its kind. Assumes nothing.
 use mathlib.Core.Path.{refl}
 use denote.Ref.{now}
-use Rattle.memory.specs.Box.{Box}
+use Rattle.memory.specs.Box.{Box, Reply, reply}
 use Rattle.memory.specs.Boxed.{boxed}
 use Rattle.memory.proofs.Sizes.{sound-lengths}
 use Rattle.memory.proofs.Carrying.{not-refused, carried, refused, not-getm, not-store, right-getm, right-store, does-getm, does-store}
@@ -72,7 +72,9 @@ returns-2 : tie.Need-returns-2
 returns-2 c =
     let a = c .before .before .before .before .before .before .before .before .before .before .before .before .before .before .before .before .before .before .before .before .before .before .before .before .before .before .before .before .before .before .before .before .args in
     let b : Box = boxed (now (a .words)) (now (a .flags)) (now (a .addresses)) (now (a .sizes)) (now (a .links)) (now (a .marks)) (now (a .deeps)) (a .s) in
-    carried (a .q) b (c .before .before .before .before .before .before .before .before .before .before .before .before .before .before .before .before .before .before .before .before .before .before .before .before .refusal .result) _ (c .before .before .before .before .before .before .before .before .before .before .before .before .before .before .before .before .before .before .before .before .before .before .before .before .refusal .ensures b refl (refl, refl, refl, refl, refl, refl, refl)) (c .before .before .before .before .before .before .before .before .before .before .before .before .before .before .before .before .before .before .before .before .before .before .before .if1 .left) (does-getm (a .q) _ _ _ (c .before .before .before .before .before .before .before .before .before .before .before .before .before .before .before .before .before .before .before .before .before .q .given .1) b _ (c .before .before .before .before .before .before .before .before .before .before .before .before .getm .ensures))
+    let k = c .before .before .before .before .before .before .before .before .before .before .before .before .getm in
+    let x : Reply = reply (boxed (k .last .1 .1 .1 .1 .0) (k .last .1 .1 .1 .1 .1 .0) (k .last .1 .1 .1 .1 .1 .1 .0) (k .last .1 .1 .1 .1 .1 .1 .1 .0) (now (a .links)) (k .last .1 .1 .1 .1 .1 .1 .1 .1 .1 .0) (k .last .1 .1 .1 .1 .1 .1 .1 .1 .1 .1 .0) (k .result .state)) (k .result .answer) in
+    carried (a .q) b (c .before .before .before .before .before .before .before .before .before .before .before .before .before .before .before .before .before .before .before .before .before .before .before .before .refusal .result) x (c .before .before .before .before .before .before .before .before .before .before .before .before .before .before .before .before .before .before .before .before .before .before .before .before .refusal .ensures b refl (refl, refl, refl, refl, refl, refl, refl)) (c .before .before .before .before .before .before .before .before .before .before .before .before .before .before .before .before .before .before .before .before .before .before .before .if1 .left) (does-getm (a .q) _ _ _ (c .before .before .before .before .before .before .before .before .before .before .before .before .before .before .before .before .before .before .before .before .before .q .given .1) b x (k .ensures))
 
 same-length-8 : tie.Need-same-length-8
 same-length-8 c = c .before .before .before .before .before .before .before .before .before .before .store .kept .1 .1 .1 .1 .0
@@ -99,7 +101,9 @@ returns-3 : tie.Need-returns-3
 returns-3 c =
     let a = c .before .before .before .before .before .before .before .before .before .before .before .before .before .before .before .before .before .before .before .before .before .before .before .before .before .before .before .before .before .before .args in
     let b : Box = boxed (now (a .words)) (now (a .flags)) (now (a .addresses)) (now (a .sizes)) (now (a .links)) (now (a .marks)) (now (a .deeps)) (a .s) in
-    carried (a .q) b (c .before .before .before .before .before .before .before .before .before .before .before .before .before .before .before .before .before .before .before .before .before .before .refusal .result) _ (c .before .before .before .before .before .before .before .before .before .before .before .before .before .before .before .before .before .before .before .before .before .before .refusal .ensures b refl (refl, refl, refl, refl, refl, refl, refl)) (c .before .before .before .before .before .before .before .before .before .before .before .before .before .before .before .before .before .before .before .before .before .if1 .left) (does-store (a .q) _ _ _ (c .before .before .before .before .before .before .before .before .before .before .before .before .before .before .before .before .before .before .before .q2 .given .1) b _ (c .before .before .before .before .before .before .before .before .before .before .store .ensures))
+    let k = c .before .before .before .before .before .before .before .before .before .before .store in
+    let x : Reply = reply (boxed (k .last .1 .1 .1 .1 .0) (k .last .1 .1 .1 .1 .1 .0) (now (a .addresses)) (now (a .sizes)) (k .last .1 .1 .1 .1 .1 .1 .1 .1 .0) (k .last .1 .1 .1 .1 .1 .1 .1 .1 .1 .0) (k .last .1 .1 .1 .1 .1 .1 .1 .1 .1 .1 .0) (k .result .state)) (k .result .answer) in
+    carried (a .q) b (c .before .before .before .before .before .before .before .before .before .before .before .before .before .before .before .before .before .before .before .before .before .before .refusal .result) x (c .before .before .before .before .before .before .before .before .before .before .before .before .before .before .before .before .before .before .before .before .before .before .refusal .ensures b refl (refl, refl, refl, refl, refl, refl, refl)) (c .before .before .before .before .before .before .before .before .before .before .before .before .before .before .before .before .before .before .before .before .before .if1 .left) (does-store (a .q) _ _ _ (c .before .before .before .before .before .before .before .before .before .before .before .before .before .before .before .before .before .before .before .q2 .given .1) b x (k .ensures))
 
 same-length-15 : tie.Need-same-length-15
 same-length-15 c = refl
@@ -117,7 +121,9 @@ returns-4 : tie.Need-returns-4
 returns-4 c =
     let a = c .before .before .before .before .before .before .before .before .before .before .before .before .before .before .before .args in
     let b : Box = boxed (now (a .words)) (now (a .flags)) (now (a .addresses)) (now (a .sizes)) (now (a .links)) (now (a .marks)) (now (a .deeps)) (a .s) in
-    carried (a .q) b (c .before .before .before .before .before .before .before .refusal .result) _ (c .before .before .before .before .before .before .before .refusal .ensures b refl (refl, refl, refl, refl, refl, refl, refl)) (c .before .before .before .before .before .before .if1 .left) (c .carry-out .ensures (now (a .links)) (now (a .marks)) (now (a .deeps)))
+    let k = c .carry-out in
+    let x : Reply = reply (boxed (now (a .words)) (now (a .flags)) (now (a .addresses)) (now (a .sizes)) (now (a .links)) (now (a .marks)) (now (a .deeps)) (k .result .state)) (k .result .answer) in
+    carried (a .q) b (c .before .before .before .before .before .before .before .refusal .result) x (c .before .before .before .before .before .before .before .refusal .ensures b refl (refl, refl, refl, refl, refl, refl, refl)) (c .before .before .before .before .before .before .if1 .left) (k .ensures (now (a .links)) (now (a .marks)) (now (a .deeps)))
 
 pub request-spec : {M : Type 1} → statement M
 request-spec =

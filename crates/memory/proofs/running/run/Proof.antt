@@ -74,7 +74,9 @@ loop-again c =
     let b : Box = boxed (x .words) (x .flags) (x .addresses) (x .sizes) (x .links) (x .marks) (x .deeps) (x .s) in
     let o = c .before .before .outcome .result in
     let k = a .step .kept in
-    let turn = on-turn (x .answer) (x .steps) (x .left) b _ _ o (c .before .choose3 .result) (c .choose4 .result) (t .loop-test .taken) (a .step .ensures) (c .before .before .outcome .ensures) (c .before .choose3 .ensures) (c .choose4 .ensures) in
+    let l = a .step .last in
+    let after : Box = boxed (l .1 .0) (l .1 .1 .0) (l .1 .1 .1 .0) (l .1 .1 .1 .1 .0) (l .1 .1 .1 .1 .1 .0) (l .1 .1 .1 .1 .1 .1 .0) (l .1 .1 .1 .1 .1 .1 .1 .0) (a .step .result .state) in
+    let turn = on-turn (x .answer) (x .steps) (x .left) b after (a .step .result .answer) o (c .before .choose3 .result) (c .choose4 .result) (t .loop-test .taken) (a .step .ensures) (c .before .before .outcome .ensures) (c .before .choose3 .ensures) (c .choose4 .ensures) in
     (on-fits (q .budget) (x .steps) (x .left) o (c .before .choose3 .result) (c .choose4 .result) (t .loop-test .taken) (x .inv .0) (c .before .choose3 .ensures) (c .choose4 .ensures) .0, k .1 .0 ∙ x .inv .1, k .1 .1 .0 ∙ x .inv .2, k .1 .1 .1 .0 ∙ x .inv .3, k .1 .1 .1 .1 .0 ∙ x .inv .4, k .1 .1 .1 .1 .1 .0 ∙ x .inv .5, k .1 .1 .1 .1 .1 .1 .0 ∙ x .inv .6, k .1 .1 .1 .1 .1 .1 .1 .0 ∙ x .inv .7, turn ∙ x .inv .8)
 
 same-length : tie.Need-same-length Inv-loop μ-loop

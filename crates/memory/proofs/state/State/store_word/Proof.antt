@@ -1,73 +1,112 @@
 -- `State::store_word` meets its contract: by whether the word is shaded and can be; shading keeps M and H. Assumes nothing.
-use mathlib.Core.Path.{sym, _∙_}
-use denote.Ref.{now}
-use Rattle.memory.specs.Boxed.{boxed}
+use mathlib.Core.Bool.{true, false}
 use mathlib.Core.List.{[]}
-use Rattle.memory.proofs.Stores.{shade-m, shade-h, within-same, store-plain, store-shaded, store-unshadable}
-use borrow.Author.Needs.{needs}
+use mathlib.Core.Path.{_≡_, refl}
+use denote.Ref.{now}
+use lib.ListN.{length}
+use Rattle.memory.specs.Box.{Box}
+use Rattle.memory.specs.Place.{can-shade}
+use Rattle.memory.specs.Boxed.{boxed, word-of, place-of}
+use Rattle.memory.proofs.Bounds.{tested}
+use Rattle.memory.proofs.Stores.{kept-sizes, store-plain, store-shaded, store-unshadable}
 use Rattle.memory.proofs.state.State.store_word.Statement.{statement}
 use Rattle.memory.proofs.state.State.store_word.Tie as tie
-use Rattle.memory.proofs.state.State.store_word.Reads as reads
-use Rattle.memory.proofs.state.State.store_word.Lts as lts
-use Rattle.memory.proofs.state.State.can_shade.Reads as can-shade-reads
-use Rattle.memory.proofs.state.State.put_word.Reads as put-word-reads
-use Rattle.memory.proofs.state.State.shade.Reads as shade-reads
-use Rattle.memory.proofs.state.State.shades.Reads as shades-reads
-use Rattle.memory.proofs.word.Word.handle.Reads as handle-reads
 
 shades-requires : tie.Need-shades-requires
-shades-requires c κs = search needs
+shades-requires c κs = tt
 
 handle-requires : tie.Need-handle-requires
-handle-requires c κs = search needs
+handle-requires c κs = tt
 
 can-shade-requires : tie.Need-can-shade-requires
-can-shade-requires c κs = search needs
+can-shade-requires c κs = let p = c .before .before .before .before .before .before .before .before .before .before .pre in (p .2, p .4)
 
 shade-requires : tie.Need-shade-requires
-shade-requires c κs = let q = c .before .before .before .before .before .before .before .before .before .before .before .before .before .before .before .pre in (q .2, q .3, q .4, q .5, q .6, sym (c .before .before .before .before .can-shade .ensures [] [] [] [] []) ∙ c .before .before .before .if2 .taken)
+shade-requires c κs =
+    let s = c .before .before .before .before .before .before .before .before .before .before .before .before .before .before .before in
+    let a = s .args in
+    let t = c .before .before .before .before .before .before .handle .result in
+    let b : Box = boxed [] [] [] (now (a .sizes)) [] (now (a .marks)) [] (a .self) in
+    let x = c .before .before .before .before .can-shade .result in
+    let e : x ≡ can-shade t b = c .before .before .before .before .can-shade .ensures [] [] [] [] [] in
+    let p = s .pre in
+    (p .2, p .3, p .4, p .5, p .6, tested x (can-shade t b) true e (c .before .before .before .if2 .taken))
 
 put-word-requires : tie.Need-put-word-requires
-put-word-requires c κs = let q = c .before .before .before .before .before .before .before .before .before .before .before .before .before .before .before .before .before .before .before .before .before .before .before .pre in let a = c .before .before .before .before .before .before .before .before .before .before .before .before .before .before .before .before .before .before .before .before .before .before .before .args in let m = shade-m _ (boxed (now (a .words)) (now (a .flags)) [] (now (a .sizes)) (now (a .links)) (now (a .marks)) (now (a .deeps)) (a .self)) _ (c .before .before .before .before .before .before .before .shade .ensures (now (a .words)) (now (a .flags)) []) in let h = shade-h _ (boxed (now (a .words)) (now (a .flags)) [] (now (a .sizes)) (now (a .links)) (now (a .marks)) (now (a .deeps)) (a .self)) _ (c .before .before .before .before .before .before .before .shade .ensures (now (a .words)) (now (a .flags)) []) in (q .0 ∙ sym m, q .1 ∙ sym m, q .5 ∙ sym h, rw h (q .7), within-same (a .p) _ _ (sym m) (q .8))
+put-word-requires c κs =
+    let s = c .before .before .before .before .before .before .before .before .before .before .before .before .before .before .before .before .before .before .before .before .before .before .before in
+    let a = s .args in
+    let b : Box = boxed (now (a .words)) (now (a .flags)) [] (now (a .sizes)) (now (a .links)) (now (a .marks)) (now (a .deeps)) (a .self) in
+    let r = c .before .before .before .before .before .before .before .shade in
+    let x : Box = boxed (now (a .words)) (now (a .flags)) [] (now (a .sizes)) (r .last .1 .1 .1 .0) (r .last .1 .1 .1 .1 .0) (now (a .deeps)) (r .result) in
+    let p = s .pre in
+    kept-sizes (c .before .before .before .before .before .before .before .before .before .before .before .before .before .before .handle .result) b x (r .ensures (now (a .words)) (now (a .flags)) []) (length (now (a .words))) (length (now (a .flags))) (length (now (a .deeps))) (a .h) (a .p) (p .0) (p .1) (p .5) (p .7) (p .8)
 
 same-length : tie.Need-same-length
-same-length c = search needs
+same-length c = c .before .before .before .before .before .before .put-word .kept .1 .1 .1 .1 .0
 
 same-length-2 : tie.Need-same-length-2
-same-length-2 c = search needs
+same-length-2 c = c .before .before .before .before .before .before .put-word .kept .1 .1 .1 .1 .1 .0
 
 same-length-3 : tie.Need-same-length-3
-same-length-3 c = search needs
+same-length-3 c = c .before .before .before .before .before .before .before .before .before .before .before .before .before .before .shade .kept .1 .1 .1 .0
 
 same-length-4 : tie.Need-same-length-4
-same-length-4 c = search needs
+same-length-4 c = c .before .before .before .before .before .before .before .before .before .before .before .before .before .before .shade .kept .1 .1 .1 .1 .0
 
 same-length-5 : tie.Need-same-length-5
-same-length-5 c = search needs
+same-length-5 c = c .before .before .before .before .before .before .put-word .kept .1 .1 .1 .1 .1 .1 .0
 
 returns : tie.Need-returns
-returns c ads = store-shaded _ _ _ _ _ (c .before .before .before .before .before .before .before .before .before .before .before .before .before .before .before .before .before .before .before .before .before .before .before .shades .ensures _ _ ads _ _ _ _) _ _ _ (c .before .before .before .before .before .before .before .before .before .before .before .before .before .before .before .before .before .before .before .before .before .before .if1 .taken) (c .before .before .before .before .before .before .before .before .before .before .before .before .before .before .before .before .before .before .before .before .before .handle .ensures .0) (sym (c .before .before .before .before .before .before .before .before .before .before .before .before .before .before .before .before .before .before .before .can-shade .ensures _ _ ads _ _) ∙ c .before .before .before .before .before .before .before .before .before .before .before .before .before .before .before .before .before .before .if2 .taken) (c .before .before .before .before .before .before .before .before .before .before .before .before .before .before .shade .ensures _ _ ads) (c .before .before .before .before .before .before .put-word .ensures ads _ _ _)
+returns c ads =
+    let s = c .before .before .before .before .before .before .before .before .before .before .before .before .before .before .before .before .before .before .before .before .before .before .before .before .before .before .before .before .before .before in
+    let a = s .args in
+    let b : Box = boxed (now (a .words)) (now (a .flags)) ads (now (a .sizes)) (now (a .links)) (now (a .marks)) (now (a .deeps)) (a .self) in
+    let u = c .before .before .before .before .before .before .before .before .before .before .before .before .before .before .before .before .before .before .before .before .before .before .before .shades in
+    let t = c .before .before .before .before .before .before .before .before .before .before .before .before .before .before .before .before .before .before .before .before .before .handle in
+    let k = c .before .before .before .before .before .before .before .before .before .before .before .before .before .before .before .before .before .before .before .can-shade in
+    let r = c .before .before .before .before .before .before .before .before .before .before .before .before .before .before .shade in
+    let w = c .before .before .before .before .before .before .put-word in
+    let y : Box = boxed (now (a .words)) (now (a .flags)) ads (now (a .sizes)) (r .last .1 .1 .1 .0) (r .last .1 .1 .1 .1 .0) (now (a .deeps)) (r .result) in
+    let x : Box = boxed (w .last .1 .1 .1 .1 .0) (w .last .1 .1 .1 .1 .1 .0) ads (now (a .sizes)) (r .last .1 .1 .1 .0) (r .last .1 .1 .1 .1 .0) (w .last .1 .1 .1 .1 .1 .1 .0) (w .result) in
+    let e : k .result ≡ can-shade (t .result) b = k .ensures (now (a .words)) (now (a .flags)) ads (now (a .links)) (now (a .deeps)) in
+    store-shaded (word-of (a .w)) (a .h) (place-of (a .p)) b (u .result) (u .ensures (now (a .words)) (now (a .flags)) ads (now (a .sizes)) (now (a .links)) (now (a .marks)) (now (a .deeps))) (t .result) x y (c .before .before .before .before .before .before .before .before .before .before .before .before .before .before .before .before .before .before .before .before .before .before .if1 .taken) (t .ensures .0) (tested (k .result) (can-shade (t .result) b) true e (c .before .before .before .before .before .before .before .before .before .before .before .before .before .before .before .before .before .before .if2 .taken)) (r .ensures (now (a .words)) (now (a .flags)) ads) (w .ensures ads (now (a .sizes)) (r .last .1 .1 .1 .0) (r .last .1 .1 .1 .1 .0))
 
 same-length-6 : tie.Need-same-length-6
-same-length-6 c = search needs
+same-length-6 c = refl
 
 returns-2 : tie.Need-returns-2
-returns-2 c ads = store-unshadable _ _ _ _ _ (c .before .before .before .before .before .shades .ensures _ _ ads _ _ _ _) _ (c .before .before .before .before .if1 .taken) (c .before .before .before .handle .ensures .0) (sym (c .before .can-shade .ensures _ _ ads _ _) ∙ c .if2 .left)
+returns-2 c ads =
+    let s = c .before .before .before .before .before .before .before .before .before .before .before .before in
+    let a = s .args in
+    let b : Box = boxed (now (a .words)) (now (a .flags)) ads (now (a .sizes)) (now (a .links)) (now (a .marks)) (now (a .deeps)) (a .self) in
+    let u = c .before .before .before .before .before .shades in
+    let t = c .before .before .before .handle in
+    let k = c .before .can-shade in
+    let e : k .result ≡ can-shade (t .result) b = k .ensures (now (a .words)) (now (a .flags)) ads (now (a .links)) (now (a .deeps)) in
+    store-unshadable (word-of (a .w)) (a .h) (place-of (a .p)) b (u .result) (u .ensures (now (a .words)) (now (a .flags)) ads (now (a .sizes)) (now (a .links)) (now (a .marks)) (now (a .deeps))) (t .result) (c .before .before .before .before .if1 .taken) (t .ensures .0) (tested (k .result) (can-shade (t .result) b) false e (c .if2 .left))
 
 put-word-requires-2 : tie.Need-put-word-requires-2
-put-word-requires-2 c κs = search needs
+put-word-requires-2 c κs = let p = c .before .before .before .before .before .before .before .before .before .before .before .pre in (p .0, p .1, p .5, p .7, p .8)
 
 same-length-7 : tie.Need-same-length-7
-same-length-7 c = search needs
+same-length-7 c = c .before .before .before .before .before .before .put-word2 .kept .1 .1 .1 .1 .0
 
 same-length-8 : tie.Need-same-length-8
-same-length-8 c = search needs
+same-length-8 c = c .before .before .before .before .before .before .put-word2 .kept .1 .1 .1 .1 .1 .0
 
 same-length-9 : tie.Need-same-length-9
-same-length-9 c = search needs
+same-length-9 c = c .before .before .before .before .before .before .put-word2 .kept .1 .1 .1 .1 .1 .1 .0
 
 returns-3 : tie.Need-returns-3
-returns-3 c ads = store-plain _ _ _ _ _ (c .before .before .before .before .before .before .before .before .before .before .before .shades .ensures _ _ ads _ _ _ _) _ (c .before .before .before .before .before .before .before .before .before .before .if1 .left) (c .before .before .before .before .before .before .put-word2 .ensures ads _ _ _)
+returns-3 c ads =
+    let s = c .before .before .before .before .before .before .before .before .before .before .before .before .before .before .before .before .before .before in
+    let a = s .args in
+    let b : Box = boxed (now (a .words)) (now (a .flags)) ads (now (a .sizes)) (now (a .links)) (now (a .marks)) (now (a .deeps)) (a .self) in
+    let u = c .before .before .before .before .before .before .before .before .before .before .before .shades in
+    let w = c .before .before .before .before .before .before .put-word2 in
+    let x : Box = boxed (w .last .1 .1 .1 .1 .0) (w .last .1 .1 .1 .1 .1 .0) ads (now (a .sizes)) (now (a .links)) (now (a .marks)) (w .last .1 .1 .1 .1 .1 .1 .0) (w .result) in
+    store-plain (word-of (a .w)) (a .h) (place-of (a .p)) b (u .result) (u .ensures (now (a .words)) (now (a .flags)) ads (now (a .sizes)) (now (a .links)) (now (a .marks)) (now (a .deeps))) x (c .before .before .before .before .before .before .before .before .before .before .if1 .left) (w .ensures ads (now (a .sizes)) (now (a .links)) (now (a .marks)))
 
 pub store-word-spec : {M : Type 1} → statement M
 store-word-spec =
