@@ -40,7 +40,7 @@ module _ (b : Box) where
   step-plain t n z e q = sym (ungranted t n z) ∙ simp (e, q)
 
   -- and where it is, with its tuple made
-  pub step-granted : (t a : Box) (n : ℕ) → n ≡ 32 → sound b ≡ true → with-grant (reply t n) ≡ rule-of (b .state .phase) b → a ≡ new-tuple (t .state .«hold_register») (t .state .«hold_size») (t .state .«hold_tag») t → reply (with-state (with-held false (a .state)) a) 32 ≡ step b
+  pub step-granted : (t a : Box) (n : ℕ) → n ≡ 32 → sound b ≡ true → with-grant (reply t n) ≡ rule-of (b .state .phase) b → a ≡ new-tuple (t .state .«hold_register») (t .state .«hold_size») (t .state .«hold_tag») t → reply (with-state (with-held false (a .state)) a) n ≡ step b
   unfolding step with-grant granted unheld
   step-granted t a n z e q p = simp (e, ← q, z, p)
 

@@ -78,7 +78,7 @@ impl State {
 // One step of the collector, by the rule of its phase. Answers 30 going; 31 ended with nothing held, 32 ended and granted,
 // 33 ended and still held; 8 the held request is dropped; 9 refused, and then everything is as found.
 pub fn step(
-    s: State,
+    mut s: State,
     words: &mut [u32],
     flags: &mut [bool],
     addresses: &mut [u32],
@@ -101,12 +101,12 @@ pub fn step(
     ) {
         let done = s.rule(words, flags, addresses, sizes, links, marks, deeps);
         let answer = done.answer;
-        let held = done.state;
+        s = done.state;
         if answer == 32 {
-            let r = held.hold_register;
-            let n = held.hold_size;
-            let tag = held.hold_tag;
-            let mut state = held.new_tuple(
+            let r = s.hold_register;
+            let n = s.hold_size;
+            let tag = s.hold_tag;
+            s = s.new_tuple(
                 r,
                 n,
                 tag,
@@ -118,10 +118,9 @@ pub fn step(
                 marks,
                 deeps,
             );
-            state.held = false;
-            return Answered { state, answer: 32 };
+            s.held = false;
         }
-        return done;
+        return Answered { state: s, answer };
     }
     Answered {
         state: s,
