@@ -8,6 +8,10 @@ use native.Mathlib.Omega.{arith}
 pub below : (i n length : ℕ) → length ≡ n → i < n → i < length
 below i n length e l = omega arith
 
+-- where there is room for n words and one
+pub below-room : (i n m length : ℕ) → length ≡ m → i + n + 1 ≤ m → i < length
+below-room i n m length e l = omega arith
+
 pub at-most : (length n m : ℕ) → length ≡ n → n ≤ m → length ≤ m
 at-most length n m e l = omega arith
 

@@ -1,5 +1,6 @@
 -- `State::carry_out` meets its contract: by the kinds, each by what its method ensures. Assumes nothing.
 use denote.Ref.{now}
+use Rattle.memory.specs.Box.{Reply, reply}
 use Rattle.memory.specs.Boxed.{boxed}
 use Rattle.memory.proofs.Carrying.{changed, right-setd, right-nil, right-move, right-advance, right-load, right-size, right-tag, right-same, does-setd, does-nil, does-move, does-advance, does-load, does-size, does-tag, does-same}
 use borrow.Author.Needs.{needs}
@@ -57,42 +58,58 @@ same-requires c κs = let a = c .before .before .before .before .before .before 
 returns : tie.Need-returns
 returns c ls ms ds =
     let a = c .before .before .before .before .before .before .before .before .args in
-    does-setd (a .q) _ _ (c .before .before .q .given .1) (boxed (now (a .words)) (now (a .flags)) (now (a .addresses)) (now (a .sizes)) ls ms ds (a .self)) _ (c .set-data .ensures (now (a .words)) (now (a .flags)) (now (a .addresses)) (now (a .sizes)) ls ms ds)
+    let d = c .set-data .result in
+    let x : Reply = reply (boxed (now (a .words)) (now (a .flags)) (now (a .addresses)) (now (a .sizes)) ls ms ds (d .state)) (d .answer) in
+    does-setd (a .q) _ _ (c .before .before .q .given .1) (boxed (now (a .words)) (now (a .flags)) (now (a .addresses)) (now (a .sizes)) ls ms ds (a .self)) x (c .set-data .ensures (now (a .words)) (now (a .flags)) (now (a .addresses)) (now (a .sizes)) ls ms ds)
 
 returns-2 : tie.Need-returns-2
 returns-2 c ls ms ds =
     let a = c .before .before .before .before .before .before .before .before .args in
-    does-nil (a .q) _ (c .before .before .q2 .given .1) (boxed (now (a .words)) (now (a .flags)) (now (a .addresses)) (now (a .sizes)) ls ms ds (a .self)) _ (c .set-nil .ensures (now (a .words)) (now (a .flags)) (now (a .addresses)) (now (a .sizes)) ls ms ds)
+    let d = c .set-nil .result in
+    let x : Reply = reply (boxed (now (a .words)) (now (a .flags)) (now (a .addresses)) (now (a .sizes)) ls ms ds (d .state)) (d .answer) in
+    does-nil (a .q) _ (c .before .before .q2 .given .1) (boxed (now (a .words)) (now (a .flags)) (now (a .addresses)) (now (a .sizes)) ls ms ds (a .self)) x (c .set-nil .ensures (now (a .words)) (now (a .flags)) (now (a .addresses)) (now (a .sizes)) ls ms ds)
 
 returns-3 : tie.Need-returns-3
 returns-3 c ls ms ds =
     let a = c .before .before .before .before .before .before .before .before .args in
-    does-move (a .q) _ _ (c .before .before .q3 .given .1) (boxed (now (a .words)) (now (a .flags)) (now (a .addresses)) (now (a .sizes)) ls ms ds (a .self)) _ (c .move-register .ensures (now (a .words)) (now (a .flags)) (now (a .addresses)) (now (a .sizes)) ls ms ds)
+    let d = c .move-register .result in
+    let x : Reply = reply (boxed (now (a .words)) (now (a .flags)) (now (a .addresses)) (now (a .sizes)) ls ms ds (d .state)) (d .answer) in
+    does-move (a .q) _ _ (c .before .before .q3 .given .1) (boxed (now (a .words)) (now (a .flags)) (now (a .addresses)) (now (a .sizes)) ls ms ds (a .self)) x (c .move-register .ensures (now (a .words)) (now (a .flags)) (now (a .addresses)) (now (a .sizes)) ls ms ds)
 
 returns-4 : tie.Need-returns-4
 returns-4 c ls ms ds =
     let a = c .before .before .before .before .before .before .before .before .args in
-    does-advance (a .q) _ _ (c .before .before .q4 .given .1) (boxed (now (a .words)) (now (a .flags)) (now (a .addresses)) (now (a .sizes)) ls ms ds (a .self)) _ (c .advance .ensures (now (a .words)) (now (a .flags)) (now (a .addresses)) (now (a .sizes)) ls ms ds)
+    let d = c .advance .result in
+    let x : Reply = reply (boxed (now (a .words)) (now (a .flags)) (now (a .addresses)) (now (a .sizes)) ls ms ds (d .state)) (d .answer) in
+    does-advance (a .q) _ _ (c .before .before .q4 .given .1) (boxed (now (a .words)) (now (a .flags)) (now (a .addresses)) (now (a .sizes)) ls ms ds (a .self)) x (c .advance .ensures (now (a .words)) (now (a .flags)) (now (a .addresses)) (now (a .sizes)) ls ms ds)
 
 returns-5 : tie.Need-returns-5
 returns-5 c ls ms ds =
     let a = c .before .before .before .before .before .before .before .before .args in
-    does-load (a .q) _ _ _ (c .before .before .q5 .given .1) (boxed (now (a .words)) (now (a .flags)) (now (a .addresses)) (now (a .sizes)) ls ms ds (a .self)) _ (c .load .ensures ls ms ds)
+    let d = c .load .result in
+    let x : Reply = reply (boxed (now (a .words)) (now (a .flags)) (now (a .addresses)) (now (a .sizes)) ls ms ds (d .state)) (d .answer) in
+    does-load (a .q) _ _ _ (c .before .before .q5 .given .1) (boxed (now (a .words)) (now (a .flags)) (now (a .addresses)) (now (a .sizes)) ls ms ds (a .self)) x (c .load .ensures ls ms ds)
 
 returns-6 : tie.Need-returns-6
 returns-6 c ls ms ds =
     let a = c .before .before .before .before .before .before .before .before .args in
-    does-size (a .q) _ _ (c .before .before .q6 .given .1) (boxed (now (a .words)) (now (a .flags)) (now (a .addresses)) (now (a .sizes)) ls ms ds (a .self)) _ (c .size .ensures (now (a .words)) (now (a .flags)) (now (a .addresses)) ls ms ds)
+    let d = c .size .result in
+    let x : Reply = reply (boxed (now (a .words)) (now (a .flags)) (now (a .addresses)) (now (a .sizes)) ls ms ds (d .state)) (d .answer) in
+    does-size (a .q) _ _ (c .before .before .q6 .given .1) (boxed (now (a .words)) (now (a .flags)) (now (a .addresses)) (now (a .sizes)) ls ms ds (a .self)) x (c .size .ensures (now (a .words)) (now (a .flags)) (now (a .addresses)) ls ms ds)
 
 returns-7 : tie.Need-returns-7
 returns-7 c ls ms ds =
     let a = c .before .before .before .before .before .before .before .before .args in
-    does-tag (a .q) _ _ (c .before .before .q7 .given .1) (boxed (now (a .words)) (now (a .flags)) (now (a .addresses)) (now (a .sizes)) ls ms ds (a .self)) _ (c .tag .ensures (now (a .sizes)) ls ms ds)
+    let d = c .tag .result in
+    let x : Reply = reply (boxed (now (a .words)) (now (a .flags)) (now (a .addresses)) (now (a .sizes)) ls ms ds (d .state)) (d .answer) in
+    does-tag (a .q) _ _ (c .before .before .q7 .given .1) (boxed (now (a .words)) (now (a .flags)) (now (a .addresses)) (now (a .sizes)) ls ms ds (a .self)) x (c .tag .ensures (now (a .sizes)) ls ms ds)
 
 returns-8 : tie.Need-returns-8
 returns-8 c ls ms ds =
     let a = c .before .before .before .before .before .before .before .before .args in
-    does-same (a .q) _ _ _ (c .before .before .q8 .given .1) (boxed (now (a .words)) (now (a .flags)) (now (a .addresses)) (now (a .sizes)) ls ms ds (a .self)) _ (c .same .ensures (now (a .words)) (now (a .flags)) (now (a .addresses)) (now (a .sizes)) ls ms ds)
+    let d = c .same .result in
+    let x : Reply = reply (boxed (now (a .words)) (now (a .flags)) (now (a .addresses)) (now (a .sizes)) ls ms ds (d .state)) (d .answer) in
+    does-same (a .q) _ _ _ (c .before .before .q8 .given .1) (boxed (now (a .words)) (now (a .flags)) (now (a .addresses)) (now (a .sizes)) ls ms ds (a .self)) x (c .same .ensures (now (a .words)) (now (a .flags)) (now (a .addresses)) (now (a .sizes)) ls ms ds)
 
 returns-9 : tie.Need-returns-9
 returns-9 c ls ms ds = absurd (changed (c .before .before .before .before .before .args .q) (c .match .keys9) (c .before .before .before .before .before .pre .5) (c .before .before .before .before .before .pre .6))

@@ -1,16 +1,15 @@
 -- `State::find_slot` meets its contract: each return is a case of `at-word`. Assumes nothing.
+use mathlib.Core.Bool.{true, false}
+use denote.Ref.{now}
+use Rattle.memory.proofs.Bounds.{tested}
 use Rattle.memory.proofs.Findings.{word-beyond, word-outside, word-there}
 use Rattle.memory.proofs.Places.{within-m}
-use mathlib.Core.Path.{sym, _∙_}
 use mathlib.Core.List.{[]}
-use Rattle.memory.specs.Boxed.{boxed}
+use Rattle.memory.specs.Place.{in-memory}
+use Rattle.memory.specs.Boxed.{boxed, place-of}
 use borrow.Author.Needs.{needs}
 use Rattle.memory.proofs.state.State.find_slot.Statement.{statement}
 use Rattle.memory.proofs.state.State.find_slot.Tie as tie
-use Rattle.memory.proofs.state.State.find_slot.Reads as reads
-use Rattle.memory.proofs.state.State.find_slot.Lts as lts
-use Rattle.memory.proofs.state.State.in_memory.Reads as in-memory-reads
-use Rattle.memory.proofs.state.State.place.Reads as place-reads
 
 mul-size : tie.Need-mul-size
 mul-size c = search needs
@@ -19,7 +18,9 @@ shared-slice-read-size : tie.Need-shared-slice-read-size
 shared-slice-read-size c = search needs
 
 returns : tie.Need-returns
-returns c = (λ ws fs ls ms ds f. word-beyond _ _ _ _ (c .if1 .taken), tt)
+returns c =
+    let a = c .before .before .before .before .args in
+    (λ ws fs ls ms ds f. word-beyond (a .h) (a .n) (boxed ws fs (now (a .addresses)) (now (a .sizes)) ls ms ds (a .self)) (f (a .h)) (c .if1 .taken), tt)
 
 add-place : tie.Need-add-place
 add-place c = search needs
@@ -28,13 +29,22 @@ place-requires : tie.Need-place-requires
 place-requires c κs = search needs
 
 in-memory-requires : tie.Need-in-memory-requires
-in-memory-requires c κs = search needs
+in-memory-requires c κs = tt
 
 returns-2 : tie.Need-returns-2
-returns-2 c = (λ ws fs ls ms ds f. word-there _ _ _ _ _ (c .before .before .before .if1 .left) (c .before .before .place .ensures ws fs _ ls ms ds) (sym (c .before .in-memory .ensures ws fs _ _ ls ms ds) ∙ c .if2 .taken), (c .before .before .before .before .before .before .before .pre .2, within-m (c .before .before .place .result) (boxed [] [] [] [] [] [] [] (c .before .before .before .before .before .before .before .args .self)) (sym (c .before .in-memory .ensures [] [] [] [] [] [] []) ∙ c .if2 .taken)))
+returns-2 c =
+    let s = c .before .before .before .before .before .before .before in
+    let a = s .args in
+    let k = c .before .in-memory in
+    let p = c .before .before .place in
+    (λ ws fs ls ms ds f. word-there (a .h) (a .n) (boxed ws fs (now (a .addresses)) (now (a .sizes)) ls ms ds (a .self)) (f (a .h)) (place-of (p .result)) (c .before .before .before .if1 .left) (p .ensures ws fs (now (a .sizes)) ls ms ds) (tested (k .result) (in-memory (place-of (p .result)) (boxed ws fs (now (a .addresses)) (now (a .sizes)) ls ms ds (a .self))) true (k .ensures ws fs (now (a .addresses)) (now (a .sizes)) ls ms ds) (c .if2 .taken)), (s .pre .2, within-m (p .result) (boxed [] [] [] [] [] [] [] (a .self)) (tested (k .result) (in-memory (place-of (p .result)) (boxed [] [] [] [] [] [] [] (a .self))) true (k .ensures [] [] [] [] [] [] []) (c .if2 .taken))))
 
 returns-3 : tie.Need-returns-3
-returns-3 c = (λ ws fs ls ms ds f. word-outside _ _ _ _ _ (c .before .before .before .if1 .left) (c .before .before .place .ensures ws fs _ ls ms ds) (sym (c .before .in-memory .ensures ws fs _ _ ls ms ds) ∙ c .if2 .left), tt)
+returns-3 c =
+    let a = c .before .before .before .before .before .before .before .args in
+    let k = c .before .in-memory in
+    let p = c .before .before .place in
+    (λ ws fs ls ms ds f. word-outside (a .h) (a .n) (boxed ws fs (now (a .addresses)) (now (a .sizes)) ls ms ds (a .self)) (f (a .h)) (place-of (p .result)) (c .before .before .before .if1 .left) (p .ensures ws fs (now (a .sizes)) ls ms ds) (tested (k .result) (in-memory (place-of (p .result)) (boxed ws fs (now (a .addresses)) (now (a .sizes)) ls ms ds (a .self))) false (k .ensures ws fs (now (a .addresses)) (now (a .sizes)) ls ms ds) (c .if2 .left)), tt)
 
 pub find-slot-spec : {M : Type 1} → statement M
 find-slot-spec =

@@ -1,20 +1,19 @@
 -- `State::size` meets its contract: the definition at what `find_tuple` found. Assumes nothing.
+use denote.Ref.{now}
+use Rattle.memory.specs.Box.{Box, Reply, reply}
+use Rattle.memory.specs.Boxed.{boxed}
 use native.Mathlib.Omega.{arith}
 use Rattle.memory.proofs.Findings.{name-entry}
 use Rattle.memory.proofs.Accesses.{size-there, size-nil, size-refused}
 use borrow.Author.Needs.{needs}
 use Rattle.memory.proofs.state.State.size.Statement.{statement}
 use Rattle.memory.proofs.state.State.size.Tie as tie
-use Rattle.memory.proofs.state.State.size.Reads as reads
-use Rattle.memory.proofs.state.State.size.Lts as lts
-use Rattle.memory.proofs.state.State.find_tuple.Reads as find-tuple-reads
-use Rattle.memory.proofs.state.State.set_data.Reads as set-data-reads
 
 find-tuple-requires : tie.Need-find-tuple-requires
-find-tuple-requires c κs = search needs
+find-tuple-requires c κs = c .before .pre .2
 
 enum-known-t : tie.Need-enum-known-t
-enum-known-t c = search needs
+enum-known-t c = c .match .keys1
 
 cast-i : tie.Need-cast-i
 cast-i c = search needs
@@ -29,22 +28,38 @@ set-data-requires : tie.Need-set-data-requires
 set-data-requires c κs = search needs
 
 enum-told : tie.Need-enum-told
-enum-told c = search needs
+enum-told c = c .match .keys2
 
 set-data-requires-2 : tie.Need-set-data-requires-2
-set-data-requires-2 c κs = search needs
+set-data-requires-2 c κs = c .before .before .before .before .pre .1
 
 enum-known-t-2 : tie.Need-enum-known-t-2
-enum-known-t-2 c = search needs
+enum-known-t-2 c = c .match .keys3
 
 returns : tie.Need-returns
-returns c ws fs ads ls ms ds = size-there _ _ _ _ (c .before .before .before .before .before .find-tuple .ensures .0 ws fs ads _ ls ms ds) _ _ (c .before .before .before .t .given .1) (c .set-data .ensures ws fs ads _ ls ms ds)
+returns c ws fs ads ls ms ds =
+    let a = c .before .before .before .before .before .before .before .args in
+    let b : Box = boxed ws fs ads (now (a .sizes)) ls ms ds (a .self) in
+    let t = c .before .before .before .before .before .find-tuple in
+    let d = c .set-data in
+    let x : Reply = reply (boxed ws fs ads (now (a .sizes)) ls ms ds (d .result .state)) (d .result .answer) in
+    size-there (a .r) (a .s) (t .result) b (t .ensures .0 ws fs ads (now (a .sizes)) ls ms ds) _ x (c .before .before .before .t .given .1) (d .ensures ws fs ads (now (a .sizes)) ls ms ds)
 
 returns-2 : tie.Need-returns-2
-returns-2 c ws fs ads ls ms ds = size-nil _ _ _ _ (c .before .before .before .find-tuple .ensures .0 ws fs ads _ ls ms ds) _ (c .before .enum-told .given .1) (c .set-data2 .ensures ws fs ads _ ls ms ds)
+returns-2 c ws fs ads ls ms ds =
+    let a = c .before .before .before .before .before .args in
+    let b : Box = boxed ws fs ads (now (a .sizes)) ls ms ds (a .self) in
+    let t = c .before .before .before .find-tuple in
+    let d = c .set-data2 in
+    let x : Reply = reply (boxed ws fs ads (now (a .sizes)) ls ms ds (d .result .state)) (d .result .answer) in
+    size-nil (a .r) (a .s) (t .result) b (t .ensures .0 ws fs ads (now (a .sizes)) ls ms ds) x (c .before .enum-told .given .1) (d .ensures ws fs ads (now (a .sizes)) ls ms ds)
 
 returns-3 : tie.Need-returns-3
-returns-3 c ws fs ads ls ms ds = size-refused _ _ _ _ (c .before .before .before .find-tuple .ensures .0 ws fs ads _ ls ms ds) _ (c .before .t2 .given .1)
+returns-3 c ws fs ads ls ms ds =
+    let a = c .before .before .before .before .before .args in
+    let b : Box = boxed ws fs ads (now (a .sizes)) ls ms ds (a .self) in
+    let t = c .before .before .before .find-tuple in
+    size-refused (a .r) (a .s) (t .result) b (t .ensures .0 ws fs ads (now (a .sizes)) ls ms ds) _ (c .before .t2 .given .1)
 
 pub size-spec : {M : Type 1} → statement M
 size-spec =
