@@ -1,4 +1,4 @@
-// The end of a cycle: it is decided first, from the state alone, and then carried out.
+// The beginning of a cycle, phase 0, and its end, which is decided and carried out on the state alone.
 use crate::state::Answered;
 use crate::state::State;
 ghost use mathlib.Core.Bool.{Bool, true, false};
@@ -7,10 +7,31 @@ ghost use mathlib.Core.Path.{_≡_};
 ghost use Prim.Native.Nat.{ℕ};
 ghost use Rattle.memory.specs.Box.{Box, reply};
 ghost use Rattle.memory.specs.Boxed.{boxed};
-ghost use Rattle.memory.specs.Collector.{try-held, end-cycle};
+ghost use Rattle.memory.specs.Collector.{rest, try-held, end-cycle};
 ghost use Rattle.memory.specs.Decide.{end-refused, with-grant, Grants};
 
 impl State {
+    // Phase 0, Rest: live and both lists become empty, the hold notes that a cycle begins under it, and marking starts.
+    pub(crate) fn rest(mut self) -> Answered
+        ensures { λ r. ⌜ ((ws : List ℕ) (fs : List Bool) (ads ss ls : List ℕ) (ms ds : List Bool) → reply (boxed ws fs ads ss ls ms ds (r .state)) (r .answer) ≡ rest (boxed ws fs ads ss ls ms ds self)) ⌝ }
+    {
+        self.live = 0;
+        self.current = 0;
+        self.next = 0;
+        self.phase = 1;
+        if self.held {
+            self.begun = true;
+            return Answered {
+                state: self,
+                answer: 30,
+            };
+        }
+        Answered {
+            state: self,
+            answer: 30,
+        }
+    }
+
     // Whether the end of a cycle is refused: the held request would be granted, and its register is above 7 or the free
     // handle is no entry.
     pub(crate) fn end_refused(self) -> bool

@@ -1,4 +1,5 @@
-// The collector's marking: the phases 0 to 3. Each method is the rule of that name in specs/Collector.antt.
+// The collector's marking: phases 2 and 3, and how a tuple is taken to scan. Each method is the rule of that name in
+// specs/Collector.antt.
 use crate::state::Answered;
 use crate::state::State;
 use crate::word::Word;
@@ -10,7 +11,7 @@ ghost use lib.Dec.{ltb};
 ghost use lib.ListN.{length};
 ghost use Rattle.memory.specs.Box.{reply};
 ghost use Rattle.memory.specs.Boxed.{boxed};
-ghost use Rattle.memory.specs.Collector.{rest, scan, scan-next, scan-word, scan-current, mark-scan, mark-add};
+ghost use Rattle.memory.specs.Collector.{scan, scan-next, scan-word, scan-current, mark-scan, mark-add};
 
 impl State {
     // Whether the address base + offset is one of memory.
@@ -22,27 +23,6 @@ impl State {
             return false;
         }
         offset < m - base
-    }
-
-    // Phase 0, Rest: live and both lists become empty, the hold notes that a cycle begins under it, and marking starts.
-    pub(crate) fn rest(mut self) -> Answered
-        ensures { λ r. ⌜ ((ws : List ℕ) (fs : List Bool) (ads ss ls : List ℕ) (ms ds : List Bool) → reply (boxed ws fs ads ss ls ms ds (r .state)) (r .answer) ≡ rest (boxed ws fs ads ss ls ms ds self)) ⌝ }
-    {
-        self.live = 0;
-        self.current = 0;
-        self.next = 0;
-        self.phase = 1;
-        if self.held {
-            self.begun = true;
-            return Answered {
-                state: self,
-                answer: 30,
-            };
-        }
-        Answered {
-            state: self,
-            answer: 30,
-        }
     }
 
     // The state that scans tuple h: its address and size are taken from its entry, and what its link names becomes current.
