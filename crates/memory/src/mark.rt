@@ -47,8 +47,11 @@ impl State {
         let h = self.next;
         if self.is_entry(h) {
             self.next = 0;
-            let state = self.scan(h, addresses, sizes, links);
-            return Answered { state, answer: 30 };
+            self = self.scan(h, addresses, sizes, links);
+            return Answered {
+                state: self,
+                answer: 30,
+            };
         }
         Answered {
             state: self,
@@ -71,8 +74,11 @@ impl State {
             };
         }
         if self.is_entry(h) {
-            let state = self.scan(h, addresses, sizes, links);
-            return Answered { state, answer: 30 };
+            self = self.scan(h, addresses, sizes, links);
+            return Answered {
+                state: self,
+                answer: 30,
+            };
         }
         Answered {
             state: self,
@@ -104,7 +110,7 @@ impl State {
     // Phase 2, Mark scan: one word of the tuple under the scan, or behind its last word the next tuple to scan. Answers 30, or
     // 9 where the word is not in memory or the current list's head is no entry.
     pub(crate) fn mark_scan(
-        self,
+        mut self,
         words: &[u32],
         flags: &[bool],
         addresses: &[u32],
@@ -120,8 +126,11 @@ impl State {
             return self.scan_current(addresses, sizes, links);
         }
         if self.reaches(src, index) {
-            let state = self.scan_word(words, flags);
-            return Answered { state, answer: 30 };
+            self = self.scan_word(words, flags);
+            return Answered {
+                state: self,
+                answer: 30,
+            };
         }
         Answered {
             state: self,
@@ -131,7 +140,7 @@ impl State {
 
     // Phase 3, Mark add: the tuple just found is shaded, and the scan goes on. Answers 30, or 9 where it can't be shaded.
     pub(crate) fn mark_add(
-        self,
+        mut self,
         sizes: &[u32],
         links: &mut [u32],
         marks: &mut [bool],
@@ -142,9 +151,12 @@ impl State {
     {
         let h = self.tuple;
         if self.can_shade(h, sizes, marks) {
-            let mut state = self.shade(h, sizes, links, marks, deeps);
-            state.phase = 2;
-            return Answered { state, answer: 30 };
+            self = self.shade(h, sizes, links, marks, deeps);
+            self.phase = 2;
+            return Answered {
+                state: self,
+                answer: 30,
+            };
         }
         Answered {
             state: self,

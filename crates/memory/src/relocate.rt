@@ -45,8 +45,11 @@ impl State {
             self.top = self.dest;
             return self.end_cycle();
         }
-        let state = self.go_on(after, words, flags);
-        Answered { state, answer: 30 }
+        self = self.go_on(after, words, flags);
+        Answered {
+            state: self,
+            answer: 30,
+        }
     }
 
     // The tuple has been moved: the address in its entry is dest, dest grows by size + 1, and the sweep leaves the tuple.
@@ -94,7 +97,12 @@ impl State {
 
     // Phase 5, Sweep read: one word of the tuple goes to the copy register, or behind its last word the move is finished. Answers
     // 30, what the end of the cycle gives, or 9.
-    pub(crate) fn sweep_read(self, words: &[u32], flags: &[bool], addresses: &mut [u32]) -> Answered
+    pub(crate) fn sweep_read(
+        mut self,
+        words: &[u32],
+        flags: &[bool],
+        addresses: &mut [u32],
+    ) -> Answered
         requires { ⌜ (length (now words) ≡ self .m) × (length (now flags) ≡ self .m) × (length (now addresses) ≡ self .h) × (self .m < 65536) ⌝ }
         ensures { λ r. ⌜ ((ss ls : List ℕ) (ms ds : List Bool) → with-grant (reply (boxed (now (words .entry)) (now (flags .entry)) (now (addresses .exit)) ss ls ms ds (r .state)) (r .answer)) ≡ sweep-read (boxed (now (words .entry)) (now (flags .entry)) (now (addresses .entry)) ss ls ms ds self)) ⌝ }
         ensures { λ r. ⌜ Grants (self .m) (self .h) (r .state) (r .answer) ⌝ }
@@ -105,8 +113,11 @@ impl State {
             return self.finish_move(words, flags, addresses);
         }
         if self.reaches(src, index) {
-            let state = self.copy_word(src + index, words, flags);
-            return Answered { state, answer: 30 };
+            self = self.copy_word(src + index, words, flags);
+            return Answered {
+                state: self,
+                answer: 30,
+            };
         }
         Answered {
             state: self,
@@ -176,7 +187,7 @@ impl State {
 
     // Phase 8, Sweep zero: one word of a released tuple becomes data 0, or behind its last word the sweep leaves it. Answers 30,
     // what the end of the cycle gives, or 9.
-    pub(crate) fn sweep_zero(self, words: &mut [u32], flags: &mut [bool]) -> Answered
+    pub(crate) fn sweep_zero(mut self, words: &mut [u32], flags: &mut [bool]) -> Answered
         requires { ⌜ (length (now words) ≡ self .m) × (length (now flags) ≡ self .m) × (self .m < 65536) ⌝ }
         ensures { λ r. ⌜ ((ads ss ls : List ℕ) (ms ds : List Bool) → with-grant (reply (boxed (now (words .exit)) (now (flags .exit)) ads ss ls ms ds (r .state)) (r .answer)) ≡ sweep-zero (boxed (now (words .entry)) (now (flags .entry)) ads ss ls ms ds self)) ⌝ }
         ensures { λ r. ⌜ Grants (self .m) (self .h) (r .state) (r .answer) ⌝ }
@@ -193,8 +204,11 @@ impl State {
             };
         }
         if self.reaches(src, index) {
-            let state = self.zero_word(words, flags);
-            return Answered { state, answer: 30 };
+            self = self.zero_word(words, flags);
+            return Answered {
+                state: self,
+                answer: 30,
+            };
         }
         Answered {
             state: self,

@@ -80,7 +80,7 @@ impl State {
     // Shades the tuple of the lowest register that points to an unmarked one, and with none ends marking. Answers 9 where a
     // register on the way names no entry or its tuple can't be shaded.
     fn mark_root(
-        self,
+        mut self,
         words: &[u32],
         flags: &[bool],
         sizes: &[u32],
@@ -98,8 +98,11 @@ impl State {
         }
         let h = self.register(r).handle();
         if self.can_shade(h, sizes, marks) {
-            let state = self.shade(h, sizes, links, marks, deeps);
-            return Answered { state, answer: 30 };
+            self = self.shade(h, sizes, links, marks, deeps);
+            return Answered {
+                state: self,
+                answer: 30,
+            };
         }
         Answered {
             state: self,

@@ -76,8 +76,11 @@ impl State {
             marks[i] = false;
             self.size = size;
             self.dest = after;
-            let state = self.go_on(after, words, flags);
-            return Answered { state, answer: 30 };
+            self = self.go_on(after, words, flags);
+            return Answered {
+                state: self,
+                answer: 30,
+            };
         }
         Answered {
             state: self,
@@ -100,8 +103,11 @@ impl State {
                 links[i] = free;
                 self.size = size;
                 self.free = tuple;
-                let state = self.go_on(last + 1, words, flags);
-                return Answered { state, answer: 30 };
+                self = self.go_on(last + 1, words, flags);
+                return Answered {
+                    state: self,
+                    answer: 30,
+                };
             }
             return Answered {
                 state: self,
@@ -111,8 +117,11 @@ impl State {
         links[i] = free;
         self.size = size;
         self.free = tuple;
-        let state = self.start_zero();
-        Answered { state, answer: 30 }
+        self = self.start_zero();
+        Answered {
+            state: self,
+            answer: 30,
+        }
     }
 
     // The tuple under the sweep, of this size: kept in place, to be moved, or released. Answers 30, what the end of the cycle
