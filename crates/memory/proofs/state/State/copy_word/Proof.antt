@@ -1,4 +1,6 @@
 -- `State::copy_word` equals the definition `copy-word`, by its two cases. Assumes nothing.
+use Rattle.memory.specs.Boxed.{boxed}
+use denote.Ref.{now}
 use borrow.Author.Needs.{needs}
 use Rattle.memory.proofs.Moving.{copy-below, copy-above}
 use Rattle.memory.proofs.state.State.copy_word.Statement.{statement}
@@ -14,10 +16,10 @@ shared-slice-read-self-2 : tie.Need-shared-slice-read-self-2
 shared-slice-read-self-2 c = search needs
 
 returns : tie.Need-returns
-returns c ads ss ls ms ds = copy-below _ _ (c .if1 .taken)
+returns c ads ss ls ms ds = let a = c .before .before .before .before .args in copy-below (boxed (now (a .words)) (now (a .flags)) ads ss ls ms ds (a .self)) (a .a) (c .if1 .taken)
 
 returns-2 : tie.Need-returns-2
-returns-2 c ads ss ls ms ds = copy-above _ _ (c .if1 .left)
+returns-2 c ads ss ls ms ds = let a = c .before .before .before .before .args in copy-above (boxed (now (a .words)) (now (a .flags)) ads ss ls ms ds (a .self)) (a .a) (c .if1 .left)
 
 pub copy-word-spec : {M : Type 1} → statement M
 copy-word-spec =

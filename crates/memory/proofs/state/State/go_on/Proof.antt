@@ -1,4 +1,6 @@
 -- `State::go_on` equals the definition `go-on`: the handle is the upper half of the word at a. Assumes nothing.
+use Rattle.memory.specs.Boxed.{boxed}
+use denote.Ref.{now}
 use borrow.Author.Needs.{needs}
 use Rattle.memory.proofs.Sweeping.{goes-on}
 use Rattle.memory.proofs.state.State.go_on.Statement.{statement}
@@ -17,7 +19,7 @@ handle-requires : tie.Need-handle-requires
 handle-requires c κs = search needs
 
 returns : tie.Need-returns
-returns c ads ss ls ms ds = goes-on _ _ _ (c .handle .ensures .0)
+returns c ads ss ls ms ds = let a = c .before .before .before .before .before .args in goes-on (a .a) (c .handle .result) (boxed (now (a .words)) (now (a .flags)) ads ss ls ms ds (a .self)) (c .handle .ensures .0)
 
 pub go-on-spec : {M : Type 1} → statement M
 go-on-spec =

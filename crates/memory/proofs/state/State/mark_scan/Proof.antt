@@ -1,4 +1,6 @@
 -- `State::mark_scan` equals the definition `mark-scan`, by its cases. Assumes nothing.
+use Rattle.memory.specs.Boxed.{boxed}
+use denote.Ref.{now}
 use Rattle.memory.proofs.Marking.{mark-scan-word, mark-scan-refused, mark-scan-behind}
 use borrow.Author.Needs.{needs}
 use mathlib.Core.Path.{sym, _∙_}
@@ -10,7 +12,7 @@ scan-current-requires : tie.Need-scan-current-requires
 scan-current-requires c κs = search needs
 
 returns : tie.Need-returns
-returns c ms ds = mark-scan-behind _ _ (c .before .if1 .taken) (c .scan-current .ensures _ _ ms ds)
+returns c ms ds = let a = c .before .before .before .before .before .before .before .before .args in mark-scan-behind (boxed (now (a .words)) (now (a .flags)) (now (a .addresses)) (now (a .sizes)) (now (a .links)) ms ds (a .self)) _ (c .before .if1 .taken) (c .scan-current .ensures (now (a .words)) (now (a .flags)) ms ds)
 
 reaches-requires : tie.Need-reaches-requires
 reaches-requires c κs = search needs
@@ -19,10 +21,10 @@ scan-word-requires : tie.Need-scan-word-requires
 scan-word-requires c κs = (search needs, search needs, search needs, ltb-true _ _ (sym (c .before .reaches .ensures) ∙ c .if2 .taken))
 
 returns-2 : tie.Need-returns-2
-returns-2 c ms ds = mark-scan-word _ _ (c .before .before .before .if1 .left) (sym (c .before .before .reaches .ensures) ∙ c .before .if2 .taken) (c .scan-word .ensures _ _ _ ms ds)
+returns-2 c ms ds = let a = c .before .before .before .before .before .before .before .before .before .before .args in mark-scan-word (boxed (now (a .words)) (now (a .flags)) (now (a .addresses)) (now (a .sizes)) (now (a .links)) ms ds (a .self)) _ (c .before .before .before .if1 .left) (sym (c .before .before .reaches .ensures) ∙ c .before .if2 .taken) (c .scan-word .ensures (now (a .addresses)) (now (a .sizes)) (now (a .links)) ms ds)
 
 returns-3 : tie.Need-returns-3
-returns-3 c ms ds = mark-scan-refused _ (c .before .before .if1 .left) (sym (c .before .reaches .ensures) ∙ c .if2 .left)
+returns-3 c ms ds = let a = c .before .before .before .before .before .before .before .before .before .args in mark-scan-refused (boxed (now (a .words)) (now (a .flags)) (now (a .addresses)) (now (a .sizes)) (now (a .links)) ms ds (a .self)) (c .before .before .if1 .left) (sym (c .before .reaches .ensures) ∙ c .if2 .left)
 
 pub mark-scan-spec : {M : Type 1} → statement M
 mark-scan-spec =

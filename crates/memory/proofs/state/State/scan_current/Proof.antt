@@ -1,4 +1,6 @@
 -- `State::scan_current` equals the definition `scan-current`, by its three cases. Assumes nothing.
+use Rattle.memory.specs.Boxed.{boxed}
+use denote.Ref.{now}
 use Rattle.memory.proofs.Marking.{scan-current-empty, scan-current-done, scan-current-refused}
 use Rattle.memory.proofs.Entries.{entry-small}
 use mathlib.Core.List.{[]}
@@ -8,7 +10,7 @@ use Rattle.memory.proofs.state.State.scan_current.Statement.{statement}
 use Rattle.memory.proofs.state.State.scan_current.Tie as tie
 
 returns : tie.Need-returns
-returns c ws fs ms ds = scan-current-empty _ (c .if1 .taken)
+returns c ws fs ms ds = let a = c .before .before .before .before .args in scan-current-empty (boxed ws fs (now (a .addresses)) (now (a .sizes)) (now (a .links)) ms ds (a .self)) (c .if1 .taken)
 
 is-entry-requires : tie.Need-is-entry-requires
 is-entry-requires c κs = search needs
@@ -17,10 +19,10 @@ scan-requires : tie.Need-scan-requires
 scan-requires c κs = (search needs, search needs, search needs, entry-small _ _ (sym (c .before .is-entry .ensures [] [] [] [] [] [] []) ∙ c .if2 .taken))
 
 returns-2 : tie.Need-returns-2
-returns-2 c ws fs ms ds = scan-current-done _ _ (c .before .before .before .if1 .left) (sym (c .before .before .is-entry .ensures _ _ _ _ _ _ _) ∙ c .before .if2 .taken) (c .scan .ensures ws fs ms ds)
+returns-2 c ws fs ms ds = let a = c .before .before .before .before .before .before .before .args in scan-current-done (boxed ws fs (now (a .addresses)) (now (a .sizes)) (now (a .links)) ms ds (a .self)) _ (c .before .before .before .if1 .left) (sym (c .before .before .is-entry .ensures ws fs (now (a .addresses)) (now (a .sizes)) (now (a .links)) ms ds) ∙ c .before .if2 .taken) (c .scan .ensures ws fs ms ds)
 
 returns-3 : tie.Need-returns-3
-returns-3 c ws fs ms ds = scan-current-refused _ (c .before .before .if1 .left) (sym (c .before .is-entry .ensures _ _ _ _ _ _ _) ∙ c .if2 .left)
+returns-3 c ws fs ms ds = let a = c .before .before .before .before .before .before .args in scan-current-refused (boxed ws fs (now (a .addresses)) (now (a .sizes)) (now (a .links)) ms ds (a .self)) (c .before .before .if1 .left) (sym (c .before .is-entry .ensures ws fs (now (a .addresses)) (now (a .sizes)) (now (a .links)) ms ds) ∙ c .if2 .left)
 
 pub scan-current-spec : {M : Type 1} → statement M
 scan-current-spec =

@@ -1,4 +1,6 @@
 -- `State::scan_next` equals the definition `scan-next`, by its two cases. Assumes nothing.
+use Rattle.memory.specs.Boxed.{boxed}
+use denote.Ref.{now}
 use Rattle.memory.proofs.Marking.{scan-next-done, scan-next-refused}
 use Rattle.memory.proofs.Entries.{entry-small}
 use mathlib.Core.List.{[]}
@@ -14,10 +16,10 @@ scan-requires : tie.Need-scan-requires
 scan-requires c κs = (search needs, search needs, search needs, entry-small _ _ (sym (c .before .is-entry .ensures [] [] [] [] [] [] []) ∙ c .if1 .taken))
 
 returns : tie.Need-returns
-returns c ws fs ms ds = scan-next-done _ _ (sym (c .before .before .is-entry .ensures _ _ _ _ _ _ _) ∙ c .before .if1 .taken) (c .scan .ensures ws fs ms ds)
+returns c ws fs ms ds = let a = c .before .before .before .before .before .before .args in scan-next-done (boxed ws fs (now (a .addresses)) (now (a .sizes)) (now (a .links)) ms ds (a .self)) _ (sym (c .before .before .is-entry .ensures ws fs (now (a .addresses)) (now (a .sizes)) (now (a .links)) ms ds) ∙ c .before .if1 .taken) (c .scan .ensures ws fs ms ds)
 
 returns-2 : tie.Need-returns-2
-returns-2 c ws fs ms ds = scan-next-refused _ (sym (c .before .is-entry .ensures _ _ _ _ _ _ _) ∙ c .if1 .left)
+returns-2 c ws fs ms ds = let a = c .before .before .before .before .before .args in scan-next-refused (boxed ws fs (now (a .addresses)) (now (a .sizes)) (now (a .links)) ms ds (a .self)) (sym (c .before .is-entry .ensures ws fs (now (a .addresses)) (now (a .sizes)) (now (a .links)) ms ds) ∙ c .if1 .left)
 
 pub scan-next-spec : {M : Type 1} → statement M
 scan-next-spec = tie.close (tie.spec is-entry-requires scan-requires returns returns-2)

@@ -1,4 +1,6 @@
 -- `State::scan_word` equals the definition `scan-word`, by its two cases. Assumes nothing.
+use Rattle.memory.specs.Boxed.{boxed}
+use denote.Ref.{now}
 use borrow.Author.Needs.{needs}
 use Rattle.memory.proofs.Marking.{scan-word-pointer, scan-word-passed}
 use mathlib.Core.Path.{sym, _∙_}
@@ -30,10 +32,10 @@ handle-requires : tie.Need-handle-requires
 handle-requires c κs = search needs
 
 returns : tie.Need-returns
-returns c ads ss ls ms ds = scan-word-pointer _ _ (c .handle .ensures .0) (sym (c .before .before .names-tuple .ensures) ∙ c .before .if1 .taken)
+returns c ads ss ls ms ds = let a = c .before .before .before .before .before .before .before .args in scan-word-pointer (boxed (now (a .words)) (now (a .flags)) ads ss ls ms ds (a .self)) (c .handle .result) (c .handle .ensures .0) (sym (c .before .before .names-tuple .ensures) ∙ c .before .if1 .taken)
 
 returns-2 : tie.Need-returns-2
-returns-2 c ads ss ls ms ds = scan-word-passed _ (sym (c .before .names-tuple .ensures) ∙ c .if1 .left)
+returns-2 c ads ss ls ms ds = let a = c .before .before .before .before .before .before .args in scan-word-passed (boxed (now (a .words)) (now (a .flags)) ads ss ls ms ds (a .self)) (sym (c .before .names-tuple .ensures) ∙ c .if1 .left)
 
 pub scan-word-spec : {M : Type 1} → statement M
 scan-word-spec =

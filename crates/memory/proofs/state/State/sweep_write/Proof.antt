@@ -1,4 +1,6 @@
 -- `State::sweep_write` equals the definition `sweep-write`, by its two cases. Assumes nothing.
+use Rattle.memory.specs.Boxed.{boxed}
+use denote.Ref.{now}
 use borrow.Author.Needs.{needs}
 use Prim.Native.Nat.{_+_, _<_}
 use Rattle.memory.proofs.Compare.{reached}
@@ -36,10 +38,10 @@ same-length-2 : tie.Need-same-length-2
 same-length-2 c = search needs
 
 returns : tie.Need-returns
-returns c ads ss ls ms ds = write-done _ (sym (c .before .reaches .ensures) ∙ c .if1 .taken)
+returns c ads ss ls ms ds = let a = c .before .before .before .before .args in write-done (boxed (now (a .words)) (now (a .flags)) ads ss ls ms ds (a .self)) (sym (c .before .reaches .ensures) ∙ c .if1 .taken)
 
 returns-2 : tie.Need-returns-2
-returns-2 c ads ss ls ms ds = write-refused _ (sym (c .before .reaches .ensures) ∙ c .if1 .left)
+returns-2 c ads ss ls ms ds = let a = c .before .before .before .before .args in write-refused (boxed (now (a .words)) (now (a .flags)) ads ss ls ms ds (a .self)) (sym (c .before .reaches .ensures) ∙ c .if1 .left)
 
 pub sweep-write-spec : {M : Type 1} → statement M
 sweep-write-spec =
