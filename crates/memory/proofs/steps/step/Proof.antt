@@ -40,7 +40,7 @@ same-length-7 : tie.Need-same-length-7
 same-length-7 c = c .before .before .before .before .before .before .before .before .before .before .before .before .new-tuple .kept .1 .1 .1 .1 .1 .1 .1 .1 .1 .1 .0
 
 returns : tie.Need-returns
-returns c = let a = c .before .before .before .before .before .before .before .before .before .before .before .before .before .before .before .before .before .before .before .before .before .before .before .before .before .before .before .before .before .before .before .before .before .before .before .before .before .before .before .before .before .before .before .before .before .before .before .before .before .args in step-granted (boxed (now (a .words)) (now (a .flags)) (now (a .addresses)) (now (a .sizes)) (now (a .links)) (now (a .marks)) (now (a .deeps)) (a .s)) _ _ _ (c .before .before .before .before .before .before .before .before .before .before .before .before .before .before .before .before .before .before .before .before .if2 .taken) (sym (c .before .before .before .before .before .before .before .before .before .before .before .before .before .before .before .before .before .before .before .before .before .before .before .before .before .before .before .before .before .before .before .before .before .before .before .before .before .before .before .before .before .sound .ensures (boxed (now (a .words)) (now (a .flags)) (now (a .addresses)) (now (a .sizes)) (now (a .links)) (now (a .marks)) (now (a .deeps)) (a .s)) refl (refl, refl, refl, refl, refl, refl, refl)) ∙ c .before .before .before .before .before .before .before .before .before .before .before .before .before .before .before .before .before .before .before .before .before .before .before .before .before .before .before .before .before .before .before .before .before .before .before .before .before .before .before .before .if1 .taken) (c .before .before .before .before .before .before .before .before .before .before .before .before .before .before .before .before .before .before .before .before .before .before .before .before .before .before .before .before .before .before .before .before .rule .ensures .0) (c .before .before .before .before .before .before .before .before .before .before .before .before .new-tuple .ensures)
+returns c = let a = c .before .before .before .before .before .before .before .before .before .before .before .before .before .before .before .before .before .before .before .before .before .before .before .before .before .before .before .before .before .before .before .before .before .before .before .before .before .before .before .before .before .before .before .before .before .before .before .before .before .args in step-granted (boxed (now (a .words)) (now (a .flags)) (now (a .addresses)) (now (a .sizes)) (now (a .links)) (now (a .marks)) (now (a .deeps)) (a .s)) (boxed (c .before .before .before .before .before .before .before .before .before .before .before .before .before .before .before .before .before .before .before .before .before .before .before .before .before .before .before .before .before .before .before .before .rule .last .1 .0) (c .before .before .before .before .before .before .before .before .before .before .before .before .before .before .before .before .before .before .before .before .before .before .before .before .before .before .before .before .before .before .before .before .rule .last .1 .1 .0) (c .before .before .before .before .before .before .before .before .before .before .before .before .before .before .before .before .before .before .before .before .before .before .before .before .before .before .before .before .before .before .before .before .rule .last .1 .1 .1 .0) (now (a .sizes)) (c .before .before .before .before .before .before .before .before .before .before .before .before .before .before .before .before .before .before .before .before .before .before .before .before .before .before .before .before .before .before .before .before .rule .last .1 .1 .1 .1 .1 .0) (c .before .before .before .before .before .before .before .before .before .before .before .before .before .before .before .before .before .before .before .before .before .before .before .before .before .before .before .before .before .before .before .before .rule .last .1 .1 .1 .1 .1 .1 .0) (now (a .deeps)) (c .before .before .before .before .before .before .before .before .before .before .before .before .before .before .before .before .before .before .before .before .before .before .before .before .before .before .before .before .before .before .before .before .rule .result .state)) (boxed (c .before .before .before .before .before .before .before .before .before .before .before .before .new-tuple .last .1 .1 .1 .1 .0) (c .before .before .before .before .before .before .before .before .before .before .before .before .new-tuple .last .1 .1 .1 .1 .1 .0) (c .before .before .before .before .before .before .before .before .before .before .before .before .new-tuple .last .1 .1 .1 .1 .1 .1 .0) (c .before .before .before .before .before .before .before .before .before .before .before .before .new-tuple .last .1 .1 .1 .1 .1 .1 .1 .0) (c .before .before .before .before .before .before .before .before .before .before .before .before .before .before .before .before .before .before .before .before .before .before .before .before .before .before .before .before .before .before .before .before .rule .last .1 .1 .1 .1 .1 .0) (c .before .before .before .before .before .before .before .before .before .before .before .before .new-tuple .last .1 .1 .1 .1 .1 .1 .1 .1 .1 .0) (c .before .before .before .before .before .before .before .before .before .before .before .before .new-tuple .last .1 .1 .1 .1 .1 .1 .1 .1 .1 .1 .0) (c .before .before .before .before .before .before .before .before .before .before .before .before .new-tuple .result)) (c .before .before .before .before .before .before .before .before .before .before .before .before .before .before .before .before .before .before .before .before .before .before .before .before .before .before .before .before .before .before .before .before .rule .result .answer) (c .before .before .before .before .before .before .before .before .before .before .before .before .before .before .before .before .before .before .before .before .if2 .taken) (sym (c .before .before .before .before .before .before .before .before .before .before .before .before .before .before .before .before .before .before .before .before .before .before .before .before .before .before .before .before .before .before .before .before .before .before .before .before .before .before .before .before .before .sound .ensures (boxed (now (a .words)) (now (a .flags)) (now (a .addresses)) (now (a .sizes)) (now (a .links)) (now (a .marks)) (now (a .deeps)) (a .s)) refl (refl, refl, refl, refl, refl, refl, refl)) ∙ c .before .before .before .before .before .before .before .before .before .before .before .before .before .before .before .before .before .before .before .before .before .before .before .before .before .before .before .before .before .before .before .before .before .before .before .before .before .before .before .before .if1 .taken) (c .before .before .before .before .before .before .before .before .before .before .before .before .before .before .before .before .before .before .before .before .before .before .before .before .before .before .before .before .before .before .before .before .rule .ensures .0) (c .before .before .before .before .before .before .before .before .before .before .before .before .new-tuple .ensures)
 
 same-length-8 : tie.Need-same-length-8
 same-length-8 c = c .before .before .before .before .before .before .before .before .before .before .before .before .rule .kept .1 .0
@@ -64,7 +64,7 @@ same-length-14 : tie.Need-same-length-14
 same-length-14 c = refl
 
 returns-2 : tie.Need-returns-2
-returns-2 c = let a = c .before .before .before .before .before .before .before .before .before .before .before .before .before .before .before .before .before .before .before .before .before .before .before .before .before .before .before .before .before .args in step-plain (boxed (now (a .words)) (now (a .flags)) (now (a .addresses)) (now (a .sizes)) (now (a .links)) (now (a .marks)) (now (a .deeps)) (a .s)) _ _ (c .if2 .left) (sym (c .before .before .before .before .before .before .before .before .before .before .before .before .before .before .before .before .before .before .before .before .before .sound .ensures (boxed (now (a .words)) (now (a .flags)) (now (a .addresses)) (now (a .sizes)) (now (a .links)) (now (a .marks)) (now (a .deeps)) (a .s)) refl (refl, refl, refl, refl, refl, refl, refl)) ∙ c .before .before .before .before .before .before .before .before .before .before .before .before .before .before .before .before .before .before .before .before .if1 .taken) (c .before .before .before .before .before .before .before .before .before .before .before .before .rule .ensures .0)
+returns-2 c = let a = c .before .before .before .before .before .before .before .before .before .before .before .before .before .before .before .before .before .before .before .before .before .before .before .before .before .before .before .before .before .args in step-plain (boxed (now (a .words)) (now (a .flags)) (now (a .addresses)) (now (a .sizes)) (now (a .links)) (now (a .marks)) (now (a .deeps)) (a .s)) (boxed (c .before .before .before .before .before .before .before .before .before .before .before .before .rule .last .1 .0) (c .before .before .before .before .before .before .before .before .before .before .before .before .rule .last .1 .1 .0) (c .before .before .before .before .before .before .before .before .before .before .before .before .rule .last .1 .1 .1 .0) (now (a .sizes)) (c .before .before .before .before .before .before .before .before .before .before .before .before .rule .last .1 .1 .1 .1 .1 .0) (c .before .before .before .before .before .before .before .before .before .before .before .before .rule .last .1 .1 .1 .1 .1 .1 .0) (now (a .deeps)) (c .before .before .before .before .before .before .before .before .before .before .before .before .rule .result .state)) (c .before .before .before .before .before .before .before .before .before .before .before .before .rule .result .answer) (c .if2 .left) (sym (c .before .before .before .before .before .before .before .before .before .before .before .before .before .before .before .before .before .before .before .before .before .sound .ensures (boxed (now (a .words)) (now (a .flags)) (now (a .addresses)) (now (a .sizes)) (now (a .links)) (now (a .marks)) (now (a .deeps)) (a .s)) refl (refl, refl, refl, refl, refl, refl, refl)) ∙ c .before .before .before .before .before .before .before .before .before .before .before .before .before .before .before .before .before .before .before .before .if1 .taken) (c .before .before .before .before .before .before .before .before .before .before .before .before .rule .ensures .0)
 
 returns-3 : tie.Need-returns-3
 returns-3 c = let a = c .before .before .before .before .before .before .before .before .before .args in step-refused (boxed (now (a .words)) (now (a .flags)) (now (a .addresses)) (now (a .sizes)) (now (a .links)) (now (a .marks)) (now (a .deeps)) (a .s)) (sym (c .before .sound .ensures (boxed (now (a .words)) (now (a .flags)) (now (a .addresses)) (now (a .sizes)) (now (a .links)) (now (a .marks)) (now (a .deeps)) (a .s)) refl (refl, refl, refl, refl, refl, refl, refl)) ∙ c .if1 .left)
