@@ -113,7 +113,7 @@ impl State {
     // Phase 1, Mark next: the head of the next list is taken to scan; with that list empty the registers are looked at. Answers
     // 30, what the end of the cycle gives, or 9.
     pub(crate) fn mark_next(
-        self,
+        mut self,
         words: &[u32],
         flags: &[bool],
         addresses: &[u32],

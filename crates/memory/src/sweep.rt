@@ -165,7 +165,7 @@ impl State {
     // Phase 4, Sweep scan: the tuple under the sweep is kept in place, to be moved, or released. Answers 30, what the end of the
     // cycle gives, or 9.
     pub(crate) fn sweep_scan(
-        self,
+        mut self,
         words: &[u32],
         flags: &[bool],
         sizes: &[u32],
