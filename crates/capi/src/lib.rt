@@ -34,10 +34,10 @@ pub extern "C" fn gloamish_open(
     if state.len() != STATE_LENGTH {
         return NOT_UNDERSTOOD;
     }
-    let s = wire::decode(state);
+    let mut s = wire::decode(state);
     let a = memory::open(m, h, s, words, flags, addresses, sizes, links, marks, deeps);
-    let after = a.state;
-    wire::encode(after, state);
+    s = a.state;
+    wire::encode(s, state);
     a.answer
 }
 
@@ -66,10 +66,10 @@ pub extern "C" fn gloamish_request(
     let Asked::Known(q) = asked::request_of(kind, a, b, c) else {
         return NOT_UNDERSTOOD;
     };
-    let s = wire::decode(state);
+    let mut s = wire::decode(state);
     let done = memory::request(q, s, words, flags, addresses, sizes, links, marks, deeps);
-    let after = done.state;
-    wire::encode(after, state);
+    s = done.state;
+    wire::encode(s, state);
     done.answer
 }
 
@@ -91,10 +91,10 @@ pub extern "C" fn gloamish_step(
     if state.len() != STATE_LENGTH {
         return NOT_UNDERSTOOD;
     }
-    let s = wire::decode(state);
+    let mut s = wire::decode(state);
     let done = memory::step(s, words, flags, addresses, sizes, links, marks, deeps);
-    let after = done.state;
-    wire::encode(after, state);
+    s = done.state;
+    wire::encode(s, state);
     done.answer
 }
 
@@ -117,7 +117,7 @@ pub extern "C" fn gloamish_run(
     if state.len() != STATE_LENGTH {
         return wide(NOT_UNDERSTOOD);
     }
-    let s = wire::decode(state);
+    let mut s = wire::decode(state);
     let done = memory::run(
         budget,
         s,
@@ -129,8 +129,8 @@ pub extern "C" fn gloamish_run(
         marks,
         deeps,
     );
-    let after = done.state;
-    wire::encode(after, state);
+    s = done.state;
+    wire::encode(s, state);
     let steps = done.steps;
     let answer = done.answer;
     wide(steps) * 256 + wide(answer)
