@@ -1,5 +1,6 @@
 // The collector's marking: phases 2 and 3, and how a tuple is taken to scan. Each method is the rule of that name in
 // specs/Collector.antt.
+use crate::place::reaches;
 use crate::state::Answered;
 use crate::state::State;
 use crate::word::Word;
@@ -7,24 +8,12 @@ ghost use mathlib.Core.Bool.{Bool, true};
 ghost use mathlib.Core.List.{List};
 ghost use mathlib.Core.Path.{_≡_};
 ghost use Prim.Native.Nat.{ℕ, _+_, _<_, _≤_};
-ghost use lib.Dec.{ltb};
 ghost use lib.ListN.{length};
 ghost use Rattle.memory.specs.Box.{reply};
 ghost use Rattle.memory.specs.Boxed.{boxed};
 ghost use Rattle.memory.specs.Collector.{scan, scan-next, scan-word, scan-current, mark-scan, mark-add};
 
 impl State {
-    // Whether the address base + offset is one of memory.
-    pub(crate) fn reaches(self, base: u32, offset: u32) -> bool
-        ensures { λ r. ⌜ r ≡ ltb (base + offset) (self .m) ⌝ }
-    {
-        let m = self.m;
-        if m < base {
-            return false;
-        }
-        offset < m - base
-    }
-
     // The state that scans tuple h: its address and size are taken from its entry, and what its link names becomes current.
     fn scan(mut self, h: u32, addresses: &[u32], sizes: &[u32], links: &[u32]) -> State
         requires { ⌜ (length (now addresses) ≡ self .h) × (length (now sizes) ≡ self .h) × (length (now links) ≡ self .h) × (h < self .h) ⌝ }
@@ -125,7 +114,7 @@ impl State {
         if self.size < index {
             return self.scan_current(addresses, sizes, links);
         }
-        if self.reaches(src, index) {
+        if reaches(self.m, src, index) {
             self = self.scan_word(words, flags);
             return Answered {
                 state: self,

@@ -23,6 +23,16 @@ fn behind(address: u32, i: u32) -> Place
     Place::At(address as usize + i as usize)
 }
 
+// Whether the address base + offset is one of a memory of m words.
+pub(crate) fn reaches(m: u32, base: u32, offset: u32) -> bool
+    ensures { λ r. ⌜ r ≡ ltb (base + offset) m ⌝ }
+{
+    if m < base {
+        return false;
+    }
+    offset < m - base
+}
+
 impl State {
     // Whether h is the tuple being moved: the collector's tuple, in phase 5, 6 or 7.
     fn being_moved(self, h: u32) -> bool

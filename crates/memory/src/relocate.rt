@@ -1,4 +1,5 @@
 // How the sweep moves a tuple and clears words, phases 5 to 8. Each method is the rule of that name in specs/Collector.antt.
+use crate::place::reaches;
 use crate::state::Answered;
 use crate::state::State;
 ghost use mathlib.Core.Bool.{Bool, true};
@@ -19,7 +20,7 @@ impl State {
     {
         let src = self.src;
         let size = self.size;
-        if self.reaches(src, size) {
+        if reaches(self.m, src, size) {
             let after = src + size + 1;
             if after == self.top {
                 self.top = self.dest;
@@ -63,7 +64,7 @@ impl State {
         let dest = self.dest;
         let size = self.size;
         if self.is_entry(h) {
-            if self.reaches(dest, size) {
+            if reaches(self.m, dest, size) {
                 let mut state = self;
                 state.dest = dest + size + 1;
                 if state.can_leave() {
@@ -112,7 +113,7 @@ impl State {
         if self.size < index {
             return self.finish_move(words, flags, addresses);
         }
-        if self.reaches(src, index) {
+        if reaches(self.m, src, index) {
             self = self.copy_word(src + index, words, flags);
             return Answered {
                 state: self,
@@ -132,7 +133,7 @@ impl State {
     {
         let src = self.src;
         let index = self.index;
-        if self.reaches(src, index) {
+        if reaches(self.m, src, index) {
             let at = (src + index) as usize;
             words[at] = 0;
             flags[at] = false;
@@ -155,7 +156,7 @@ impl State {
     {
         let dest = self.dest;
         let index = self.index;
-        if self.reaches(dest, index) {
+        if reaches(self.m, dest, index) {
             let at = (dest + index) as usize;
             words[at] = self.copy;
             flags[at] = self.copy_flag;
@@ -203,7 +204,7 @@ impl State {
                 answer: 9,
             };
         }
-        if self.reaches(src, index) {
+        if reaches(self.m, src, index) {
             self = self.zero_word(words, flags);
             return Answered {
                 state: self,

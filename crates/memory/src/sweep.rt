@@ -1,4 +1,5 @@
 // The collector's sweep over the tuples, phase 4. Each method is the rule of that name in specs/Collector.antt.
+use crate::place::reaches;
 use crate::state::Answered;
 use crate::state::State;
 use crate::word::Word;
@@ -140,7 +141,7 @@ impl State {
     {
         let src = self.src;
         let i = self.tuple as usize;
-        if self.reaches(src, size) {
+        if reaches(self.m, src, size) {
             if marks[i] {
                 if src == self.dest {
                     return self.keep_in_place(size, words, flags, marks);

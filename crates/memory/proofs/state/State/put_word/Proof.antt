@@ -1,4 +1,8 @@
 -- `State::put_word` meets its contract: by whether the word names a tuple, and what `write` ensures. Assumes nothing.
+use mathlib.Core.Bool.{true}
+use lib.ListN.{set}
+use Rattle.memory.specs.Boxed.{boxed, word-of, place-of}
+use denote.Ref.{now}
 use Rattle.memory.proofs.Stores.{put-deep, put-flat}
 use borrow.Author.Needs.{needs}
 use Rattle.memory.proofs.state.State.put_word.Statement.{statement}
@@ -27,7 +31,7 @@ same-length-3 : tie.Need-same-length-3
 same-length-3 c = search needs
 
 returns : tie.Need-returns
-returns c ads ss ls ms = put-deep _ _ _ _ _ _ (c .before .before .before .before .before .before .before .before .names-tuple .ensures) (c .before .before .before .before .before .before .before .if1 .taken) (c .before .before .before .before .write .ensures ads ss ls ms _)
+returns c ads ss ls ms = let a = c .before .before .before .before .before .before .before .before .before .before .before .before .args in put-deep (word-of (a .w)) (a .h) (place-of (a .p)) (boxed (now (a .words)) (now (a .flags)) ads ss ls ms (now (a .deeps)) (a .self)) (boxed (c .before .before .before .before .write .last .1 .1 .1 .0) (c .before .before .before .before .write .last .1 .1 .1 .1 .0) ads ss ls ms (set (now (a .deeps)) (a .h) true) (c .before .before .before .before .write .result)) (c .before .before .before .before .before .before .before .before .names-tuple .result) (c .before .before .before .before .before .before .before .before .names-tuple .ensures) (c .before .before .before .before .before .before .before .if1 .taken) (c .before .before .before .before .write .ensures ads ss ls ms (set (now (a .deeps)) (a .h) true))
 
 write-requires-2 : tie.Need-write-requires-2
 write-requires-2 c κs = search needs
@@ -39,7 +43,7 @@ same-length-5 : tie.Need-same-length-5
 same-length-5 c = search needs
 
 returns-2 : tie.Need-returns-2
-returns-2 c ads ss ls ms = put-flat _ _ _ _ _ _ (c .before .before .before .before .before .before .before .before .names-tuple .ensures) (c .before .before .before .before .before .before .before .if1 .left) (c .before .before .before .before .write2 .ensures ads ss ls ms _)
+returns-2 c ads ss ls ms = let a = c .before .before .before .before .before .before .before .before .before .before .before .before .args in put-flat (word-of (a .w)) (a .h) (place-of (a .p)) (boxed (now (a .words)) (now (a .flags)) ads ss ls ms (now (a .deeps)) (a .self)) (boxed (c .before .before .before .before .write2 .last .1 .1 .1 .0) (c .before .before .before .before .write2 .last .1 .1 .1 .1 .0) ads ss ls ms (now (a .deeps)) (c .before .before .before .before .write2 .result)) (c .before .before .before .before .before .before .before .before .names-tuple .result) (c .before .before .before .before .before .before .before .before .names-tuple .ensures) (c .before .before .before .before .before .before .before .if1 .left) (c .before .before .before .before .write2 .ensures ads ss ls ms (now (a .deeps)))
 
 pub put-word-spec : {M : Type 1} → statement M
 put-word-spec =

@@ -1,7 +1,7 @@
--- `State::reaches` compares by a difference what it says of a sum. Assumes nothing.
+-- `place::reaches` compares by a difference what it says of a sum. Assumes nothing.
 use Rattle.memory.proofs.Compare.{above-sum, below-sum}
-use Rattle.memory.proofs.state.State.reaches.Statement.{statement}
-use Rattle.memory.proofs.state.State.reaches.Tie as tie
+use Rattle.memory.proofs.place.reaches.Statement.{statement}
+use Rattle.memory.proofs.place.reaches.Tie as tie
 
 returns : tie.Need-returns
 returns c = above-sum _ _ _ (c .if1 .taken)
