@@ -12,6 +12,13 @@ below i n length e l = omega arith
 pub below-room : (i n m length : ℕ) → length ≡ m → i + n + 1 ≤ m → i < length
 below-room i n m length e l = omega arith
 
+-- a bound of one number is one of its equal
+pub lt-same : (x y k : ℕ) → x ≡ y → y < k → x < k
+lt-same x y k e o = omega arith
+
+pub within-same : (k x y : ℕ) → x ≡ y → k ≤ y → k ≤ x
+within-same k x y e o = omega arith
+
 pub at-most : (length n m : ℕ) → length ≡ n → n ≤ m → length ≤ m
 at-most length n m e l = omega arith
 

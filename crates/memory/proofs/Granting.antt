@@ -100,9 +100,6 @@ calm-reply b a r n q = ungranted b a (answers b a r n q) ∙ q
 pub calm-grants : (b : Box) (a m h : ℕ) (s : State) (r : Reply) → Calm r → reply b a ≡ r → Grants m h s a
 calm-grants b a m h s r n q e = absurd (answers b a r n q e)
 
-pub never-grants : (a m h : ℕ) (s : State) → (a ≡ 32 → ⊥) → Grants m h s a
-never-grants a m h s n e = absurd (n e)
-
 -- ---- the held request that is granted
 
 pub grants-held : (s : State) → s .held ≡ true → s .phase ≡ 0 → end-refused (bare s) ≡ false → no-room (s .«hold_size») (bare s) ≡ false → Grants (s .m) (s .h) s 32

@@ -1,5 +1,5 @@
 -- One step: where the sizes are right it is the rule of the phase, and else 9. By computing the definitions. Assumes nothing.
-use Prim.Native.Nat.{ℕ, _+_, _<_, _≤_}
+use Prim.Native.Nat.{ℕ, _≤_}
 use mathlib.Core.Bool.{Bool, true, false}
 use mathlib.Core.Path.{_≡_, sym, ap, _∙_}
 use native.Mathlib.Omega.{arith}
@@ -16,19 +16,6 @@ left-three p o n0 n1 n2 = omega arith
 
 pub left-eight : (p : ℕ) → 4 ≤ p → p ≤ 8 → (p ≡ 4 → ⊥) → (p ≡ 5 → ⊥) → (p ≡ 6 → ⊥) → (p ≡ 7 → ⊥) → p ≡ 8
 left-eight p l o n4 n5 n6 n7 = omega arith
-
--- a bound of one number is one of its equal
-pub lt-same : (x y k : ℕ) → x ≡ y → y < k → x < k
-lt-same x y k e o = omega arith
-
-pub le-same : (x y k : ℕ) → x ≡ y → y ≤ k → x ≤ k
-le-same x y k e o = omega arith
-
-pub below-same : (k x y : ℕ) → x ≡ y → k < y → k < x
-below-same k x y e o = omega arith
-
-pub within-same : (k x y : ℕ) → x ≡ y → k ≤ y → k ≤ x
-within-same k x y e o = omega arith
 
 module _ (b : Box) where
   pub rule-at : (k : ℕ) (x : Reply) → b .state .phase ≡ k → x ≡ rule-of k b → x ≡ rule-of (b .state .phase) b

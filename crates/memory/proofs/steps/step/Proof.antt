@@ -3,8 +3,9 @@
 use mathlib.Core.Path.{refl, sym, _∙_}
 use denote.Ref.{now}
 use Rattle.memory.specs.Boxed.{boxed}
+use Rattle.memory.proofs.Bounds.{below, at-most, lt-same, within-same}
 use Rattle.memory.proofs.Sizes.{sound-lengths, sound-ranges, sound-phase}
-use Rattle.memory.proofs.Stepping.{lt-same, le-same, below-same, within-same, step-plain, step-granted, step-refused}
+use Rattle.memory.proofs.Stepping.{step-plain, step-granted, step-refused}
 use borrow.Author.Needs.{needs}
 use Rattle.memory.proofs.steps.step.Statement.{statement}
 use Rattle.memory.proofs.steps.step.Tie as tie
@@ -16,7 +17,7 @@ rule-requires : tie.Need-rule-requires
 rule-requires c κs = let a = c .before .before .before .before .before .before .before .before .before .before .before .before .before .before .before .before .args in let t = sym (c .before .before .before .before .before .before .before .before .sound .ensures (boxed (now (a .words)) (now (a .flags)) (now (a .addresses)) (now (a .sizes)) (now (a .links)) (now (a .marks)) (now (a .deeps)) (a .s)) refl (refl, refl, refl, refl, refl, refl, refl)) ∙ c .before .before .before .before .before .before .before .if1 .taken in let l = sound-lengths (boxed (now (a .words)) (now (a .flags)) (now (a .addresses)) (now (a .sizes)) (now (a .links)) (now (a .marks)) (now (a .deeps)) (a .s)) t in let g = sound-ranges (boxed (now (a .words)) (now (a .flags)) (now (a .addresses)) (now (a .sizes)) (now (a .links)) (now (a .marks)) (now (a .deeps)) (a .s)) t in (l .words, l .flags, l .addresses, l .sizes, l .links, l .marks, l .deeps, g .words, g .some-words, sound-phase (boxed (now (a .words)) (now (a .flags)) (now (a .addresses)) (now (a .sizes)) (now (a .links)) (now (a .marks)) (now (a .deeps)) (a .s)) t)
 
 new-tuple-requires : tie.Need-new-tuple-requires
-new-tuple-requires c κs = let a = c .before .before .before .before .before .before .before .before .before .before .before .before .before .before .before .before .before .before .before .before .before .before .before .before .before .before .before .before .before .before .before .before .before .before .before .before .args in let t = sym (c .before .before .before .before .before .before .before .before .before .before .before .before .before .before .before .before .before .before .before .before .before .before .before .before .before .before .before .before .sound .ensures (boxed (now (a .words)) (now (a .flags)) (now (a .addresses)) (now (a .sizes)) (now (a .links)) (now (a .marks)) (now (a .deeps)) (a .s)) refl (refl, refl, refl, refl, refl, refl, refl)) ∙ c .before .before .before .before .before .before .before .before .before .before .before .before .before .before .before .before .before .before .before .before .before .before .before .before .before .before .before .if1 .taken in let l = sound-lengths (boxed (now (a .words)) (now (a .flags)) (now (a .addresses)) (now (a .sizes)) (now (a .links)) (now (a .marks)) (now (a .deeps)) (a .s)) t in let g = sound-ranges (boxed (now (a .words)) (now (a .flags)) (now (a .addresses)) (now (a .sizes)) (now (a .links)) (now (a .marks)) (now (a .deeps)) (a .s)) t in let q = c .before .before .before .before .before .before .before .before .before .before .before .before .before .before .before .before .before .before .before .rule .ensures .1 (c .before .before .before .before .before .before .before .if2 .taken) in (c .before .before .before .before .before .before .before .before .before .before .before .before .before .before .before .before .before .before .before .rule .kept .1 .0 ∙ l .words ∙ sym (q .0), c .before .before .before .before .before .before .before .before .before .before .before .before .before .before .before .before .before .before .before .rule .kept .1 .1 .0 ∙ l .flags ∙ sym (q .0), c .before .before .before .before .before .before .before .before .before .before .before .before .before .before .before .before .before .before .before .rule .kept .1 .1 .1 .0 ∙ l .addresses ∙ sym (q .1), l .sizes ∙ sym (q .1), c .before .before .before .before .before .before .before .before .before .before .before .before .before .before .before .before .before .before .before .rule .kept .1 .1 .1 .1 .1 .0 ∙ l .links ∙ sym (q .1), c .before .before .before .before .before .before .before .before .before .before .before .before .before .before .before .before .before .before .before .rule .kept .1 .1 .1 .1 .1 .1 .0 ∙ l .marks ∙ sym (q .1), l .deeps ∙ sym (q .1), lt-same _ _ _ (q .0) (g .words), le-same _ _ _ (q .1) (g .entries), below-same _ _ _ (q .1) (q .3), q .4, within-same _ _ _ (q .0) (q .5), λ n. absurd (n (q .2)))
+new-tuple-requires c κs = let a = c .before .before .before .before .before .before .before .before .before .before .before .before .before .before .before .before .before .before .before .before .before .before .before .before .before .before .before .before .before .before .before .before .before .before .before .before .args in let t = sym (c .before .before .before .before .before .before .before .before .before .before .before .before .before .before .before .before .before .before .before .before .before .before .before .before .before .before .before .before .sound .ensures (boxed (now (a .words)) (now (a .flags)) (now (a .addresses)) (now (a .sizes)) (now (a .links)) (now (a .marks)) (now (a .deeps)) (a .s)) refl (refl, refl, refl, refl, refl, refl, refl)) ∙ c .before .before .before .before .before .before .before .before .before .before .before .before .before .before .before .before .before .before .before .before .before .before .before .before .before .before .before .if1 .taken in let l = sound-lengths (boxed (now (a .words)) (now (a .flags)) (now (a .addresses)) (now (a .sizes)) (now (a .links)) (now (a .marks)) (now (a .deeps)) (a .s)) t in let g = sound-ranges (boxed (now (a .words)) (now (a .flags)) (now (a .addresses)) (now (a .sizes)) (now (a .links)) (now (a .marks)) (now (a .deeps)) (a .s)) t in let q = c .before .before .before .before .before .before .before .before .before .before .before .before .before .before .before .before .before .before .before .rule .ensures .1 (c .before .before .before .before .before .before .before .if2 .taken) in (c .before .before .before .before .before .before .before .before .before .before .before .before .before .before .before .before .before .before .before .rule .kept .1 .0 ∙ l .words ∙ sym (q .0), c .before .before .before .before .before .before .before .before .before .before .before .before .before .before .before .before .before .before .before .rule .kept .1 .1 .0 ∙ l .flags ∙ sym (q .0), c .before .before .before .before .before .before .before .before .before .before .before .before .before .before .before .before .before .before .before .rule .kept .1 .1 .1 .0 ∙ l .addresses ∙ sym (q .1), l .sizes ∙ sym (q .1), c .before .before .before .before .before .before .before .before .before .before .before .before .before .before .before .before .before .before .before .rule .kept .1 .1 .1 .1 .1 .0 ∙ l .links ∙ sym (q .1), c .before .before .before .before .before .before .before .before .before .before .before .before .before .before .before .before .before .before .before .rule .kept .1 .1 .1 .1 .1 .1 .0 ∙ l .marks ∙ sym (q .1), l .deeps ∙ sym (q .1), lt-same _ _ _ (q .0) (g .words), at-most _ _ _ (q .1) (g .entries), below _ _ _ (q .1) (q .3), q .4, within-same _ _ _ (q .0) (q .5), λ n. absurd (n (q .2)))
 
 same-length : tie.Need-same-length
 same-length c = c .before .before .before .before .before .before .before .before .before .before .before .before .new-tuple .kept .1 .1 .1 .1 .0 ∙ c .before .before .before .before .before .before .before .before .before .before .before .before .before .before .before .before .before .before .before .before .before .before .before .before .before .before .before .before .before .before .before .before .rule .kept .1 .0
