@@ -7,12 +7,13 @@ use mathlib.Core.Logic.{_≢_, inl, inr}
 use mathlib.Core.Path.{_≡_, refl, sym, _∙_, subst}
 use native.Mathlib.Omega.{arith}
 use lib.ListN.{getD-replicate}
-use Rattle.memory.specs.Limits.{register-count}
-use Rattle.memory.specs.Box.{Box, Word, Reply, data-word, register}
-use Rattle.memory.specs.Request.{request}
-use Rattle.memory.specs.Collector.{step}
-use Rattle.memory.specs.Run.{run}
-use Rattle.memory.specs.Open.{opened-state, opened, opening}
+use Rattle.rules.specs.Limits.{register-count}
+use Rattle.rules.specs.Parts.{Word, Box}
+use Rattle.rules.specs.Box.{Reply, data-word, register}
+use Rattle.rules.specs.Request.{request}
+use Rattle.rules.specs.Collector.{step}
+use Rattle.rules.specs.Run.{run}
+use Rattle.rules.specs.Open.{opened, opening}
 use Rattle.history.specs.Machine.{HWord, fresh, datum, register-of, Call, ask, single-step, run-for, feed}
 use Rattle.history.specs.Calls.{Pending, empty-log, World, start, log-step, after-request, after-step, after-run, play-call, play, CallInWidth, CallsInWidth}
 use Rattle.history.specs.Demand3.{Every, IfThere, InTime, Demand3, Demand3Claim}
@@ -33,7 +34,7 @@ use Rattle.history.proofs.Good.Steps.{After, GoodRun, good-run}
 -- ---- the opening
 
 opened-related : (m h : ℕ) (free : List ℕ) → Related (opened m h) (resting-plan []) fresh [] (λ x. 0)
-unfolding opened opened-state fresh
+unfolding opened fresh
 opened-related m h free =
     record {
       roots-match = roots;
@@ -51,7 +52,7 @@ opened-related m h free =
         zero-then = λ j. record { bits = getD-replicate register-count r 0 0 l j; flag = getD-replicate register-count r false false l j }
 
 opened-good : (m h : ℕ) → Inv (opened m h) (resting [] (handles-below h)) → Good m h (opened m h) fresh empty-log
-unfolding opened opened-state fresh
+unfolding opened fresh
 opened-good m h v =
     record {
       m-is = refl;
@@ -126,9 +127,9 @@ in-time m h w k = record { not-yet = go (k .waiting); by-then = k .past .in-time
     go : Waiting (w .box) (k .ghosts) (w .history) (w .log .pending) → IfThere (λ (p : Pending). p .steps < 16 * m + 4) (w .log .pending)
     go (nothing-held p x o) = subst (IfThere (λ (p : Pending). p .steps < 16 * m + 4)) (sym o) tt
     go (one-held p q x y o z) =
-        let u : y .steps + left (w .box) (k .ghosts) ≤ 16 * w .box .state .m + 4 = z .in-time in
+        let u : y .steps + left (w .box) (k .ghosts) ≤ 16 * w .box .m + 4 = z .in-time in
         let v : 1 ≤ left (w .box) (k .ghosts) = left-positive (w .box) (k .ghosts) (k .inv) in
-        let e : w .box .state .m ≡ m = k .m-is in
+        let e : w .box .m ≡ m = k .m-is in
         let f : y .steps < 16 * m + 4 = omega arith in
         subst (IfThere (λ (p : Pending). p .steps < 16 * m + 4)) (sym o) f
 

@@ -5,9 +5,10 @@ use mathlib.Core.List.{List, [], _∷_}
 use mathlib.Core.Logic.{_≢_, _⊎_}
 use mathlib.Core.Path.{_≡_}
 use lib.ListN.{length, getD}
-use Rattle.memory.specs.Limits.{register-count}
-use Rattle.memory.specs.Box.{Box, Word, handle-of, offset-of, tag-of, register, size-of, link}
-use Rattle.memory.specs.Place.{place, read}
+use Rattle.rules.specs.Limits.{register-count}
+use Rattle.rules.specs.Parts.{Word, Box}
+use Rattle.rules.specs.Box.{handle-of, offset-of, tag-of, register, size-of, link}
+use Rattle.rules.specs.Place.{place, read}
 use Rattle.history.specs.Machine.{HWord, datum, pointer-to, History, register-of, tuple-of, size-at, word-of, made}
 
 -- reachable: from a register by pointers held in tuple words, nil left out
@@ -26,7 +27,7 @@ pub data Listed (b : Box) (x : ℕ) : ℕ → Type 0 where
 
 -- gone: its handle is in the free list, or was given to a later tuple
 pub data Gone (b : Box) (given : List ℕ) (i : ℕ) : Type 0 where
-  in-free-list : Listed b (handle-at i given) (b .state .free) → Gone b given i
+  in-free-list : Listed b (handle-at i given) (b .free) → Gone b given i
   given-later : (j : ℕ) → i < j → j ≤ length given → handle-at j given ≡ handle-at i given → Gone b given i
 
 -- ---- agreement

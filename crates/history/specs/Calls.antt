@@ -5,13 +5,14 @@ use mathlib.Core.Bool.{Bool, true, false, cond, _&&_}
 use mathlib.Core.List.{List, [], _∷_, _++_}
 use mathlib.Core.Option.{Option, none, some}
 use lib.Dec.{eqb}
-use Rattle.memory.specs.declared.kinds.Request.{Request}
-use Rattle.memory.specs.declared.kinds.Request.the-variants.{Setd, Nil, Move, Advance, Getm, Load, Store, Size, Tag, Same}
-use Rattle.memory.specs.Limits.{half-word}
-use Rattle.memory.specs.Box.{Box, Reply, handle-of, register}
-use Rattle.memory.specs.Request.{request}
-use Rattle.memory.specs.Collector.{step}
-use Rattle.memory.specs.Run.{Ran, run}
+use Rattle.rules.specs.declared.kinds.Request.{Request}
+use Rattle.rules.specs.declared.kinds.Request.the-variants.{Setd, Nil, Move, Advance, Getm, Load, Store, Size, Tag, Same}
+use Rattle.rules.specs.Limits.{half-word}
+use Rattle.rules.specs.Parts.{Box}
+use Rattle.rules.specs.Box.{Reply, handle-of, register}
+use Rattle.rules.specs.Request.{request}
+use Rattle.rules.specs.Collector.{step}
+use Rattle.rules.specs.Run.{Ran, run}
 use Rattle.history.specs.Machine.{Asked, History, fresh, Call, ask, single-step, run-for, feed}
 
 -- ---- the log
@@ -101,7 +102,7 @@ log-request q a b m l = cond (eqb a 0) (log-done q b l) (cond (eqb a 7) (log-hel
 
 -- a cycle starts at its Rest step
 unfoldable pub cycle-step : Box → History → Option Cycle → Option Cycle
-cycle-step b m none = cond (eqb (b .state .phase) 0) (some (record { started = m; first-top = b .state .top; steps = 1; quiet = true })) none
+cycle-step b m none = cond (eqb (b .collector .phase) 0) (some (record { started = m; first-top = b .top; steps = 1; quiet = true })) none
 cycle-step b m (some c) = some (record { started = c .started; first-top = c .first-top; steps = suc (c .steps); quiet = c .quiet })
 
 unfoldable pub end-log-cycle : Option Cycle → Box → List ℕ → List EndedCycle → List EndedCycle

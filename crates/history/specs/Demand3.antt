@@ -6,8 +6,9 @@ use mathlib.Core.List.{List, [], _∷_}
 use mathlib.Core.Logic.{_≢_, _⊎_, _↔_}
 use mathlib.Core.Option.{Option, none, some}
 use mathlib.Core.Path.{_≡_}
-use Rattle.memory.specs.Box.{Box, data-word, word-at, Reply}
-use Rattle.memory.specs.Open.{opening}
+use Rattle.rules.specs.Parts.{Box}
+use Rattle.rules.specs.Box.{data-word, word-at, Reply}
+use Rattle.rules.specs.Open.{opening}
 use Rattle.history.specs.Machine.{History, made, Call}
 use Rattle.history.specs.Agreement.{Reachable, Gone, Agree, Lists, room, Fits}
 use Rattle.history.specs.Calls.{Cycle, EndedCycle, Pending, Answered, World, start, play, CallsInWidth}
@@ -48,7 +49,7 @@ pub record RestSum (w : World) : Type 0 where
   pub are-made : Lists (λ i. IsNumber i (w .history)) all-made
   pub gone : List ℕ
   pub are-gone : Lists (λ i. IsNumber i (w .history) × Gone (w .box) (w .log .given) i) gone
-  pub top-is : w .box .state .top + room gone (w .history) ≡ room all-made (w .history)
+  pub top-is : w .box .top + room gone (w .history) ≡ room all-made (w .history)
 
 pub record Demand3 (m h : ℕ) (w : World) : Type 0 where
   -- 1: the box agrees with the history machine
@@ -62,8 +63,8 @@ pub record Demand3 (m h : ℕ) (w : World) : Type 0 where
   -- 5: for the hold that is not yet answered, and for those that were
   pub holds-in-time : InTime m w
   -- 6: in Rest, the sum; and words from top on are data 0, in every phase
-  pub rest-sum : w .box .state .phase ≡ 0 → RestSum w
-  pub zero-above-top : (a : ℕ) → w .box .state .top ≤ a → word-at a (w .box) ≡ data-word 0
+  pub rest-sum : w .box .collector .phase ≡ 0 → RestSum w
+  pub zero-above-top : (a : ℕ) → w .box .top ≤ a → word-at a (w .box) ≡ data-word 0
   -- 7: each ended cycle in which no request was carried out took at most 8 times its first top, plus 2, steps
   pub cycles-bounded : Every (λ (e : EndedCycle). e .cycle .quiet ≡ true → e .cycle .steps ≤ 8 * e .cycle .first-top + 2) (w .log .ended)
 

@@ -7,11 +7,12 @@ use Rattle.memory.specs.declared.find.Named.the-variants.{Tuple, Nil, No
 use Rattle.memory.specs.declared.find.Found as code-found
 use Rattle.memory.specs.declared.find.Found.the-variants.{Slot, NotFound}
 use Rattle.memory.specs.declared.place.Place as code-place
-use Rattle.memory.specs.Box.{Box, Word, Reply, reply, data-word, offset-of, register, put-register, size-of}
-use Rattle.memory.specs.Place.{Place, place, in-memory, read}
+use Rattle.rules.specs.Parts.{Word, Box}
+use Rattle.rules.specs.Box.{Reply, reply, data-word, offset-of, register, put-register, size-of}
+use Rattle.rules.specs.Place.{Place, place, in-memory, read}
 use Rattle.memory.specs.Boxed.{place-of}
 use Rattle.memory.specs.Found.{Use, when-named, when-found}
-use Rattle.memory.specs.Request.{done, at-tuple, at-word, word-number, load, size, tag-at, tag}
+use Rattle.rules.specs.Request.{done, at-tuple, at-word, word-number, load, size, tag-at, tag}
 use Rattle.memory.proofs.Findings.{named-tuple, named-nil, not-named, slot-found, not-found}
 
 -- ---- LOAD

@@ -9,11 +9,12 @@ use denote.Enum.Declared.{tagOf}
 use types.Run.{OneOf, miss}
 use lib.Dec.{ltb}
 use borrow.Author.Tests.{ltb-true, lt-ltb, le-ltb}
-use Rattle.memory.specs.declared.kinds.Request.{Request}
-use Rattle.memory.specs.declared.kinds.Request.the-variants.{Setd, Nil, Move, Advance, Getm, Load, Store, Size, Tag, Same}
-use Rattle.memory.specs.Box.{Box, Reply, reply, data-word, pointer, register, put-register, sound}
-use Rattle.memory.specs.Request.{done, advance, getm, load, store, size, tag, same, is-register, registers-right, carry-out, request}
-use Rattle.memory.proofs.kinds.Request.{the-type}
+use Rattle.rules.specs.declared.kinds.Request.{Request}
+use Rattle.rules.specs.declared.kinds.Request.the-variants.{Setd, Nil, Move, Advance, Getm, Load, Store, Size, Tag, Same}
+use Rattle.rules.specs.Parts.{Box}
+use Rattle.rules.specs.Box.{Reply, reply, data-word, pointer, register, put-register, sound}
+use Rattle.rules.specs.Request.{done, advance, getm, load, store, size, tag, same, is-register, registers-right, carry-out, request}
+use Rattle.rules.proofs.kinds.Request.{the-type}
 use Rattle.memory.proofs.Sizes.{and-left, and-right}
 
 -- ---- registers
@@ -198,7 +199,7 @@ abbrev code : Bool → Bool → Bool → ℕ
 code y z i = cond y (cond z (cond i 6 0) 1) 9
 
 abbrev pub refusal-of : Request → Box → ℕ
-refusal-of q b = code (sound b) (registers-right q) (b .state .held)
+refusal-of q b = code (sound b) (registers-right q) (b .hold .held)
 
 module _ (q : Request) (b : Box) where
   pub refusal-unsound : (y : Bool) → y ≡ sound b → y ≡ false → 9 ≡ refusal-of q b
@@ -207,10 +208,10 @@ module _ (q : Request) (b : Box) where
   pub refusal-register : (y z : Bool) → y ≡ sound b → y ≡ true → z ≡ registers-right q → z ≡ false → 1 ≡ refusal-of q b
   refusal-register y z e f g h = simp (← e, f, ← g, h)
 
-  pub refusal-held : (y z : Bool) → y ≡ sound b → y ≡ true → z ≡ registers-right q → z ≡ true → b .state .held ≡ true → 6 ≡ refusal-of q b
+  pub refusal-held : (y z : Bool) → y ≡ sound b → y ≡ true → z ≡ registers-right q → z ≡ true → b .hold .held ≡ true → 6 ≡ refusal-of q b
   refusal-held y z e f g h i = simp (← e, f, ← g, h, i)
 
-  pub refusal-none : (y z : Bool) → y ≡ sound b → y ≡ true → z ≡ registers-right q → z ≡ true → b .state .held ≡ false → 0 ≡ refusal-of q b
+  pub refusal-none : (y z : Bool) → y ≡ sound b → y ≡ true → z ≡ registers-right q → z ≡ true → b .hold .held ≡ false → 0 ≡ refusal-of q b
   refusal-none y z e f g h i = simp (← e, f, ← g, h, i)
 
   by-tests : (y z i : Bool) → sound b ≡ y → registers-right q ≡ z → code y z i ≡ 0 → (sound b ≡ true) × (registers-right q ≡ true)
@@ -221,11 +222,11 @@ module _ (q : Request) (b : Box) where
 
   -- a request that is not refused is carried out
   pub not-refused : (r : ℕ) → r ≡ refusal-of q b → r ≡ 0 → (sound b ≡ true) × (registers-right q ≡ true)
-  not-refused r e f = by-tests (sound b) (registers-right q) (b .state .held) refl refl (sym e ∙ f)
+  not-refused r e f = by-tests (sound b) (registers-right q) (b .hold .held) refl refl (sym e ∙ f)
 
   pub carried : (r : ℕ) (x : Reply) → r ≡ refusal-of q b → r ≡ 0 → x ≡ carry-out q b → x ≡ request q b
   unfolding request
-  carried r x e f d = d ∙ go (sound b) (registers-right q) (b .state .held) (sym e ∙ f)
+  carried r x e f d = d ∙ go (sound b) (registers-right q) (b .hold .held) (sym e ∙ f)
     where
       go : (y z i : Bool) → code y z i ≡ 0 → carry-out q b ≡ cond y (cond z (cond i (reply b 6) (carry-out q b)) (reply b 1)) (reply b 9)
       go true true true h = absurd (omega arith)
@@ -236,7 +237,7 @@ module _ (q : Request) (b : Box) where
   -- one that is refused leaves all as it was
   pub refused : (r : ℕ) → r ≡ refusal-of q b → (r ≡ 0 → ⊥) → reply b r ≡ request q b
   unfolding request
-  refused r e n = ap (reply b) e ∙ go (sound b) (registers-right q) (b .state .held) (λ f. n (e ∙ f))
+  refused r e n = ap (reply b) e ∙ go (sound b) (registers-right q) (b .hold .held) (λ f. n (e ∙ f))
     where
       go : (y z i : Bool) → (code y z i ≡ 0 → ⊥) → reply b (code y z i) ≡ cond y (cond z (cond i (reply b 6) (carry-out q b)) (reply b 1)) (reply b 9)
       go true true true h = refl

@@ -5,8 +5,9 @@ use mathlib.Core.Bool.{Bool, true, false}
 use mathlib.Core.Path.{_≡_, sym, _∙_}
 use native.Mathlib.Omega.{arith}
 use borrow.Author.Tests.{lt-ltb, le-ltb, eq-eqb, ne-eqb}
-use Rattle.memory.specs.Box.{Box, Word, Reply, reply, size-of, handle-of, offset-of, is-entry, register}
-use Rattle.memory.specs.Place.{Place, place, in-memory}
+use Rattle.rules.specs.Parts.{Word, Box}
+use Rattle.rules.specs.Box.{Reply, reply, size-of, handle-of, offset-of, is-entry, register}
+use Rattle.rules.specs.Place.{Place, place, in-memory}
 use Rattle.memory.specs.declared.state.State.{State}
 use Rattle.memory.specs.declared.find.Named as code-named
 use Rattle.memory.specs.declared.find.Named.the-variants.{Tuple, Nil, NotNamed}
@@ -15,7 +16,7 @@ use Rattle.memory.specs.declared.find.Found.the-variants.{Slot, NotFound
 use Rattle.memory.specs.declared.place.Place as code-place
 use Rattle.memory.specs.Boxed.{place-of, Within}
 use Rattle.memory.specs.Found.{Use, when-named, when-found, RightName, RightSlot}
-use Rattle.memory.specs.Request.{at-tuple, at-word, word-number}
+use Rattle.rules.specs.Request.{at-tuple, at-word, word-number}
 use Rattle.memory.proofs.Entries.{entry, entry-far}
 
 -- ---- a tuple. v is the register's word w as it was read, and h its handle
@@ -30,11 +31,11 @@ module _ (v w : Word) (h : ℕ) (b : Box) (z : Reply) (f : ℕ → Reply) (q : v
   unfolding at-tuple
   tuple-nil n = simp (← q, t, ← e, eq-eqb h 0 n)
 
-  pub tuple-far : (h ≡ 0 → ⊥) → b .state .h ≤ h → reply b 9 ≡ at-tuple w b z f
+  pub tuple-far : (h ≡ 0 → ⊥) → b .h ≤ h → reply b 9 ≡ at-tuple w b z f
   unfolding at-tuple
   tuple-far n o = simp (← q, t, ← e, ne-eqb h 0 n, entry-far h b o)
 
-  pub tuple-there : (h ≡ 0 → ⊥) → h < b .state .h → f h ≡ at-tuple w b z f
+  pub tuple-there : (h ≡ 0 → ⊥) → h < b .h → f h ≡ at-tuple w b z f
   unfolding at-tuple
   tuple-there n o = simp (← q, t, ← e, ne-eqb h 0 n, entry h b (omega arith) o)
 

@@ -2,20 +2,22 @@
 -- computing the definitions. Assumes nothing.
 use Prim.Native.Nat.{ℕ, _+_}
 use mathlib.Core.Bool.{Bool, true, false, cond}
+use mathlib.Core.List.{[]}
 use mathlib.Core.Path.{_≡_, refl, sym, ap, _∙_}
 use native.Mathlib.Omega.{arith}
 use lib.Dec.{leb, ltb, eqb}
 use borrow.Author.Tests.{ne-eqb}
 use Rattle.memory.specs.declared.state.State.{State}
-use Rattle.memory.specs.State.{with-next}
-use Rattle.memory.specs.Box.{Box, Reply, reply, data-word, with-state, put, is-entry}
-use Rattle.memory.specs.Place.{can-shade, shade}
-use Rattle.memory.specs.Request.{no-room}
-use Rattle.memory.specs.Collector.{to-phase, after, rest, scan, scan-next, scan-word, scan-current, mark-scan, mark-add, go-on, free-tuple, start-zero, release, sweep-clear, write-copy, sweep-write}
+use Rattle.rules.specs.Parts.{Box, with-next}
+use Rattle.rules.specs.Box.{Reply, reply, data-word, put, is-entry}
+use Rattle.rules.specs.Place.{can-shade, shade}
+use Rattle.rules.specs.Request.{no-room}
+use Rattle.rules.specs.Collector.{to-phase, after, rest, scan, scan-next, scan-word, scan-current, mark-scan, mark-add, go-on, free-tuple, start-zero, release, sweep-clear, write-copy, sweep-write}
+use Rattle.memory.specs.Boxed.{boxed}
 use Rattle.memory.specs.Decide.{end-refused, with-grant, Grants}
 use Rattle.memory.proofs.Entries.{entry-small}
 use Rattle.memory.proofs.Tuples.{room-top}
-use Rattle.memory.proofs.Ending.{bare, grant-register, grant-entry}
+use Rattle.memory.proofs.Ending.{grant-register, grant-entry}
 
 -- a reply that grants nothing
 abbrev pub Calm : Reply → Type 0
@@ -53,37 +55,37 @@ module _ (b : Box) where
 
   pub scan-next-calm : Calm (scan-next b)
   unfolding scan-next
-  scan-next-calm = go-or-nine (is-entry (b .state .next) b) (scan (b .state .next) (with-state (with-next 0 (b .state)) b)) b
+  scan-next-calm = go-or-nine (is-entry (b .collector .next) b) (scan (b .collector .next) (with-next 0 b)) b
 
   scan-current-calm : Calm (scan-current b)
   unfolding scan-current
   scan-current-calm =
-      either (eqb (b .state .current) 0) (reply (to-phase 1 b) 30) (cond (is-entry (b .state .current) b) (reply (scan (b .state .current) b) 30) (reply b 9)) thirty
-      (go-or-nine (is-entry (b .state .current) b) (scan (b .state .current) b) b)
+      either (eqb (b .collector .current) 0) (reply (to-phase 1 b) 30) (cond (is-entry (b .collector .current) b) (reply (scan (b .collector .current) b) 30) (reply b 9)) thirty
+      (go-or-nine (is-entry (b .collector .current) b) (scan (b .collector .current) b) b)
 
   pub mark-scan-calm : Calm (mark-scan b)
   unfolding mark-scan
   mark-scan-calm =
-      either (leb (b .state .index) (b .state .size)) (cond (ltb (b .state .src + b .state .index) (b .state .m)) (reply (scan-word b) 30) (reply b 9)) (scan-current b)
-      (go-or-nine (ltb (b .state .src + b .state .index) (b .state .m)) (scan-word b) b) scan-current-calm
+      either (leb (b .collector .index) (b .collector .size)) (cond (ltb (b .collector .src + b .collector .index) (b .m)) (reply (scan-word b) 30) (reply b 9)) (scan-current b)
+      (go-or-nine (ltb (b .collector .src + b .collector .index) (b .m)) (scan-word b) b) scan-current-calm
 
   pub mark-add-calm : Calm (mark-add b)
   unfolding mark-add
-  mark-add-calm = go-or-nine (can-shade (b .state .tuple) b) (to-phase 2 (shade (b .state .tuple) b)) b
+  mark-add-calm = go-or-nine (can-shade (b .collector .tuple) b) (to-phase 2 (shade (b .collector .tuple) b)) b
 
   pub sweep-clear-calm : Calm (sweep-clear b)
   unfolding sweep-clear
-  sweep-clear-calm = go-or-nine (ltb (b .state .src + b .state .index) (b .state .m)) (to-phase 7 (put (b .state .src + b .state .index) (data-word 0) b)) b
+  sweep-clear-calm = go-or-nine (ltb (b .collector .src + b .collector .index) (b .m)) (to-phase 7 (put (b .collector .src + b .collector .index) (data-word 0) b)) b
 
   pub sweep-write-calm : Calm (sweep-write b)
   unfolding sweep-write
-  sweep-write-calm = go-or-nine (ltb (b .state .dest + b .state .index) (b .state .m)) (write-copy b) b
+  sweep-write-calm = go-or-nine (ltb (b .collector .dest + b .collector .index) (b .m)) (write-copy b) b
 
 pub release-calm : (found b : Box) → Calm (release found b)
 unfolding release
 release-calm found b =
-    either (ltb (b .state .src + b .state .size) (b .state .live)) (cond (ltb (after b) (b .state .m)) (reply (go-on (after b) (free-tuple b)) 30) (reply found 9)) (reply (start-zero (free-tuple b)) 30)
-    (go-or-nine (ltb (after b) (b .state .m)) (go-on (after b) (free-tuple b)) found) thirty
+    either (ltb (b .collector .src + b .collector .size) (b .collector .live)) (cond (ltb (after b) (b .m)) (reply (go-on (after b) (free-tuple b)) 30) (reply found 9)) (reply (start-zero (free-tuple b)) 30)
+    (go-or-nine (ltb (after b) (b .m)) (go-on (after b) (free-tuple b)) found) thirty
 
 -- ---- a reply that equals one of those
 
@@ -102,5 +104,9 @@ calm-grants b a m h s r n q e = absurd (answers b a r n q e)
 
 -- ---- the held request that is granted
 
-pub grants-held : (s : State) → s .held ≡ true → s .phase ≡ 0 → end-refused (bare s) ≡ false → no-room (s .«hold_size») (bare s) ≡ false → Grants (s .m) (s .h) s 32
-grants-held s t p e n u = (refl, refl, p, entry-small (s .free) (bare s) (grant-entry (bare s) t n e), grant-register (bare s) t n e, room-top (s .«hold_size») (bare s) n)
+-- the state alone
+abbrev held-alone : State → Box
+held-alone s = boxed [] [] [] [] [] [] [] s
+
+pub grants-held : (s : State) → s .held ≡ true → s .phase ≡ 0 → end-refused (held-alone s) ≡ false → no-room (s .«hold_size») (held-alone s) ≡ false → Grants (s .m) (s .h) s 32
+grants-held s t p e n u = (refl, refl, p, entry-small (s .free) (held-alone s) (grant-entry (held-alone s) t n e), grant-register (held-alone s) t n e, room-top (s .«hold_size») (held-alone s) n)

@@ -7,13 +7,10 @@ use mathlib.Core.Path.{_≡_, sym, _∙_, ap}
 use lib.ListN.{set, getD}
 use borrow.Author.Tests.{lt-ltb, le-ltb, eq-eqb, ne-eqb}
 use Rattle.memory.specs.declared.state.State.{State}
-use Rattle.memory.specs.State.{with-registers, with-flags}
-use Rattle.memory.specs.Box.{Box, Word, Reply, reply, data-word, handle-of, offset-of, register, put-register}
+use Rattle.rules.specs.Parts.{Word, Box}
+use Rattle.rules.specs.Box.{Reply, reply, data-word, handle-of, offset-of, register, put-register}
 use Rattle.memory.specs.Boxed.{boxed}
-use Rattle.memory.specs.Request.{done, advance, same-word, same}
-
-pub put-done : (ws : List ℕ) (fs : List Bool) (ads ss ls : List ℕ) (ms ds : List Bool) (s s1 : State) (r : ℕ) (w : Word) → s1 ≡ with-registers (set (s .registers) r (w .bits)) (with-flags (set (s .flags) r (w .flag)) s) → reply (boxed ws fs ads ss ls ms ds s1) 0 ≡ done (put-register r w (boxed ws fs ads ss ls ms ds s))
-put-done ws fs ads ss ls ms ds s s1 r w p = rw p
+use Rattle.rules.specs.Request.{done, advance, same-word, same}
 
 -- the word put is the one read
 pub put-read : (x : Reply) (r : ℕ) (v w : Word) (b : Box) → v ≡ w → x ≡ done (put-register r v b) → x ≡ done (put-register r w b)
@@ -22,10 +19,10 @@ put-read x r v w b q p = rw (← q) p
 -- ---- ADVANCE. v is the register's word as it was read
 
 module _ (r n : ℕ) (v : Word) (b : Box) (q : v ≡ register r b) where
-  is-bits : getD (b .state .registers) r 0 ≡ v .bits
+  is-bits : getD (b .registers .words) r 0 ≡ v .bits
   is-bits = ap (λ (w : Word). w .bits) (sym q)
 
-  is-flag : getD (b .state .flags) r false ≡ v .flag
+  is-flag : getD (b .registers .flags) r false ≡ v .flag
   is-flag = ap (λ (w : Word). w .flag) (sym q)
 
   pub advance-data : v .flag ≡ false → reply b 2 ≡ advance r n b

@@ -6,10 +6,10 @@ use mathlib.Core.Path.{_≡_, refl, sym, ap, _∙_}
 use native.Mathlib.Omega.{arith}
 use lib.Dec.{leb, ltb, eqb}
 use borrow.Author.Tests.{lt-ltb, le-ltb, eq-eqb, ne-eqb}
-use Rattle.memory.specs.State.{with-src, with-dest, with-tuple, with-phase}
-use Rattle.memory.specs.Box.{Box, Word, Reply, reply, with-state, word-at, handle-of, names-tuple, register, marked, is-entry}
-use Rattle.memory.specs.Place.{can-shade, shade}
-use Rattle.memory.specs.Collector.{Found, unmarked, damaged, nothing, look-register, look-from, begin-sweep, end-marking, mark-root, scan-next, mark-next, end-cycle}
+use Rattle.rules.specs.Parts.{Word, Box, with-dest, with-phase, with-src, with-tuple}
+use Rattle.rules.specs.Box.{Reply, reply, word-at, handle-of, names-tuple, register, marked, is-entry}
+use Rattle.rules.specs.Place.{can-shade, shade}
+use Rattle.rules.specs.Collector.{Found, unmarked, damaged, nothing, look-register, look-from, begin-sweep, end-marking, mark-root, scan-next, mark-next, end-cycle}
 use Rattle.memory.specs.Decide.{end-refused, passed-over, found-at}
 use Rattle.memory.proofs.Ending.{end-refuses}
 use Rattle.memory.proofs.Shading.{shadable-entry}
@@ -73,17 +73,17 @@ look-end r b o = look-none b ∙ ap (λ (n : ℕ). look-from n b) (omega arith)
 -- ---- the end of marking
 
 module _ (b : Box) where
-  pub marking-refused : b .state .top ≡ 0 → end-refused b ≡ true → reply b 9 ≡ end-marking b
+  pub marking-refused : b .top ≡ 0 → end-refused b ≡ true → reply b 9 ≡ end-marking b
   unfolding end-marking
-  marking-refused z e = simp (eq-eqb (b .state .top) 0 z) (end-refuses b b e)
+  marking-refused z e = simp (eq-eqb (b .top) 0 z) (end-refuses b b e)
 
-  pub marking-ended : (r : Reply) → b .state .top ≡ 0 → r ≡ end-cycle b b → r ≡ end-marking b
+  pub marking-ended : (r : Reply) → b .top ≡ 0 → r ≡ end-cycle b b → r ≡ end-marking b
   unfolding end-marking
-  marking-ended r z q = simp (eq-eqb (b .state .top) 0 z, q)
+  marking-ended r z q = simp (eq-eqb (b .top) 0 z, q)
 
-  pub marking-sweeps : (h : ℕ) → (b .state .top ≡ 0 → ⊥) → h ≡ handle-of (word-at 0 b) → reply (with-state (with-src 0 (with-dest 0 (with-tuple h (with-phase 4 (b .state))))) b) 30 ≡ end-marking b
+  pub marking-sweeps : (h : ℕ) → (b .top ≡ 0 → ⊥) → h ≡ handle-of (word-at 0 b) → reply (with-src 0 (with-dest 0 (with-tuple h (with-phase 4 b)))) 30 ≡ end-marking b
   unfolding end-marking begin-sweep
-  marking-sweeps h z q = simp (ne-eqb (b .state .top) 0 z, q)
+  marking-sweeps h z q = simp (ne-eqb (b .top) 0 z, q)
 
   -- ---- the root found
   module _ (r : ℕ) (f : Found) (e : found-at r b ≡ f) where
@@ -105,10 +105,10 @@ module _ (b : Box) where
   root-refused r f e h o n s = simp (← e, lt-ltb r 8 o, ← n) (refused-root h (is-entry h b) s)
 
   -- ---- the next list, or a root
-  pub next-root : (x : Reply) → b .state .next ≡ 0 → x ≡ mark-root (look-from 8 b) b → x ≡ mark-next b
+  pub next-root : (x : Reply) → b .collector .next ≡ 0 → x ≡ mark-root (look-from 8 b) b → x ≡ mark-next b
   unfolding mark-next
-  next-root x z q = simp (eq-eqb (b .state .next) 0 z, q)
+  next-root x z q = simp (eq-eqb (b .collector .next) 0 z, q)
 
-  pub next-scan : (x : Reply) → (b .state .next ≡ 0 → ⊥) → x ≡ scan-next b → x ≡ mark-next b
+  pub next-scan : (x : Reply) → (b .collector .next ≡ 0 → ⊥) → x ≡ scan-next b → x ≡ mark-next b
   unfolding mark-next
-  next-scan x z q = simp (ne-eqb (b .state .next) 0 z, q)
+  next-scan x z q = simp (ne-eqb (b .collector .next) 0 z, q)

@@ -7,9 +7,10 @@ use mathlib.Core.Path.{_≡_, refl, sym, _∙_, ap}
 use native.Mathlib.Omega.{arith}
 use borrow.Author.Tests.{eq-eqb, eqb-true, ne-eqb}
 use lib.Dec.{eqb}
-use Rattle.memory.specs.Box.{Box, Reply, reply, sound}
-use Rattle.memory.specs.Collector.{step}
-use Rattle.memory.specs.Run.{Ran, ran, counted, Course, goes-on, stops, refuses, course, run-on, run, after-steps}
+use Rattle.rules.specs.Parts.{Box}
+use Rattle.rules.specs.Box.{Reply, reply, sound}
+use Rattle.rules.specs.Collector.{step}
+use Rattle.rules.specs.Run.{Ran, ran, counted, Course, goes-on, stops, refuses, course, run-on, run, after-steps}
 use Rattle.memory.proofs.AsFound.{step-found}
 
 -- ---- a run, by its first step

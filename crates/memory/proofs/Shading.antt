@@ -6,8 +6,9 @@ use mathlib.Core.Path.{_≡_}
 use native.Mathlib.Omega.{arith}
 use lib.Dec.{leb, ltb}
 use borrow.Author.Tests.{le-leb, lt-leb, leb-true}
-use Rattle.memory.specs.Box.{Box, size-of, marked, deep, is-entry}
-use Rattle.memory.specs.Place.{can-shade, list-next, mark-live, shade}
+use Rattle.rules.specs.Parts.{Box}
+use Rattle.rules.specs.Box.{size-of, marked, deep, is-entry}
+use Rattle.rules.specs.Place.{can-shade, list-next, mark-live, shade}
 use Rattle.memory.proofs.Entries.{entry, entry-nil, entry-far, entry-small}
 use Rattle.memory.proofs.Sizes.{and-left, and-right}
 use Rattle.memory.proofs.Compare.{below-difference}
@@ -18,35 +19,35 @@ module _ (h : ℕ) (b : Box) where
   unfolding can-shade
   unshadable-nil z = simp (entry-nil h b z)
 
-  pub unshadable-far : b .state .h ≤ h → false ≡ can-shade h b
+  pub unshadable-far : b .h ≤ h → false ≡ can-shade h b
   unfolding can-shade
   unshadable-far f = simp (entry-far h b f)
 
-  pub shadable-marked : 0 < h → h < b .state .h → marked h b ≡ true → true ≡ can-shade h b
+  pub shadable-marked : 0 < h → h < b .h → marked h b ≡ true → true ≡ can-shade h b
   unfolding can-shade
   shadable-marked p q t = simp (entry h b p q, t)
 
   -- live alone is past M
-  pub unshadable-over : 0 < h → h < b .state .h → marked h b ≡ false → b .state .m < b .state .live → false ≡ can-shade h b
+  pub unshadable-over : 0 < h → h < b .h → marked h b ≡ false → b .m < b .collector .live → false ≡ can-shade h b
   unfolding can-shade
-  unshadable-over p q t o = simp (entry h b p q, t, lt-leb (b .state .live + size-of h b + 1) (b .state .m) (omega arith))
+  unshadable-over p q t o = simp (entry h b p q, t, lt-leb (b .collector .live + size-of h b + 1) (b .m) (omega arith))
 
   -- what is left of M is compared with the size
-  pub shadable-left : 0 < h → h < b .state .h → marked h b ≡ false → b .state .live ≤ b .state .m → ltb (size-of h b) (b .state .m - b .state .live) ≡ can-shade h b
+  pub shadable-left : 0 < h → h < b .h → marked h b ≡ false → b .collector .live ≤ b .m → ltb (size-of h b) (b .m - b .collector .live) ≡ can-shade h b
   unfolding can-shade
-  shadable-left p q t o = simp (entry h b p q, t, below-difference (b .state .m) (b .state .live) (size-of h b) o)
+  shadable-left p q t o = simp (entry h b p q, t, below-difference (b .m) (b .collector .live) (size-of h b) o)
 
   -- what follows where it can be shaded
   pub shadable-entry : can-shade h b ≡ true → is-entry h b ≡ true
   unfolding can-shade
   shadable-entry e = and-left (is-entry h b) _ e
 
-  pub shadable-small : can-shade h b ≡ true → h < b .state .h
+  pub shadable-small : can-shade h b ≡ true → h < b .h
   shadable-small e = entry-small h b (shadable-entry e)
 
-  pub shadable-total : can-shade h b ≡ true → marked h b ≡ false → b .state .live + size-of h b + 1 ≤ b .state .m
+  pub shadable-total : can-shade h b ≡ true → marked h b ≡ false → b .collector .live + size-of h b + 1 ≤ b .m
   unfolding can-shade
-  shadable-total e t = leb-true (b .state .live + size-of h b + 1) (b .state .m) (simp t at (and-right (is-entry h b) (marked h b || leb (b .state .live + size-of h b + 1) (b .state .m)) e))
+  shadable-total e t = leb-true (b .collector .live + size-of h b + 1) (b .m) (simp t at (and-right (is-entry h b) (marked h b || leb (b .collector .live + size-of h b + 1) (b .m)) e))
 
   pub shade-marked : marked h b ≡ true → b ≡ shade h b
   unfolding shade

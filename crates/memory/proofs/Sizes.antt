@@ -9,8 +9,9 @@ use lib.Dec.{leb, ltb, eqb}
 use lib.ListN.{length}
 use borrow.Author.Tests.{eq-eqb, ne-eqb, leb-true, eqb-true}
 use Rattle.memory.specs.declared.state.State.{State}
-use Rattle.memory.specs.Limits.{in-range}
-use Rattle.memory.specs.Box.{Box, lengths-are, right-sizes, sound}
+use Rattle.rules.specs.Limits.{in-range}
+use Rattle.rules.specs.Parts.{Box}
+use Rattle.rules.specs.Box.{lengths-are, right-sizes, sound}
 use Rattle.memory.specs.Boxed.{boxed, HasLengths}
 
 -- ---- conjunctions
@@ -46,18 +47,18 @@ lengths-by m h b w f a z l k d q = simp (q .0, q .1, q .2, q .3, q .4, q .5, q .
 
 -- the columns have the lengths m and h
 pub record Lengths (m h : ℕ) (b : Box) : Type 0 where
-  pub words : length (b .words) ≡ m
-  pub flags : length (b .flags) ≡ m
-  pub addresses : length (b .addresses) ≡ h
-  pub sizes : length (b .sizes) ≡ h
-  pub links : length (b .links) ≡ h
-  pub marks : length (b .marks) ≡ h
-  pub deeps : length (b .deeps) ≡ h
+  pub words : length (b .memory .words) ≡ m
+  pub flags : length (b .memory .flags) ≡ m
+  pub addresses : length (b .directory .addresses) ≡ h
+  pub sizes : length (b .directory .sizes) ≡ h
+  pub links : length (b .directory .links) ≡ h
+  pub marks : length (b .directory .marks) ≡ h
+  pub deeps : length (b .directory .deeps) ≡ h
 
 pub lengths-hold : (m h : ℕ) (b : Box) → lengths-are m h b ≡ true → Lengths m h b
 unfolding lengths-are
 lengths-hold m h b p =
-    let q = split7 (eqb (length (b .words)) m) (eqb (length (b .flags)) m) (eqb (length (b .addresses)) h) (eqb (length (b .sizes)) h) (eqb (length (b .links)) h) (eqb (length (b .marks)) h) (eqb (length (b .deeps)) h) p in
+    let q = split7 (eqb (length (b .memory .words)) m) (eqb (length (b .memory .flags)) m) (eqb (length (b .directory .addresses)) h) (eqb (length (b .directory .sizes)) h) (eqb (length (b .directory .links)) h) (eqb (length (b .directory .marks)) h) (eqb (length (b .directory .deeps)) h) p in
     record { words = eqb-true _ _ (q .0); flags = eqb-true _ _ (q .1); addresses = eqb-true _ _ (q .2); sizes = eqb-true _ _ (q .3); links = eqb-true _ _ (q .4); marks = eqb-true _ _ (q .5); deeps = eqb-true _ _ (q .6) }
 
 -- ---- sizes
@@ -89,14 +90,14 @@ sizes-lengths m h b p = lengths-hold m h b (and-right (in-range m h) _ p)
 
 -- ---- a sound box
 
-pub sound-ranges : (b : Box) → sound b ≡ true → Ranges (b .state .m) (b .state .h)
+pub sound-ranges : (b : Box) → sound b ≡ true → Ranges (b .m) (b .h)
 unfolding sound
 sound-ranges b p = sizes-ranges _ _ b (and-left _ _ p)
 
-pub sound-lengths : (b : Box) → sound b ≡ true → Lengths (b .state .m) (b .state .h) b
+pub sound-lengths : (b : Box) → sound b ≡ true → Lengths (b .m) (b .h) b
 unfolding sound
 sound-lengths b p = sizes-lengths _ _ b (and-left _ _ p)
 
-pub sound-phase : (b : Box) → sound b ≡ true → b .state .phase ≤ 8
+pub sound-phase : (b : Box) → sound b ≡ true → b .collector .phase ≤ 8
 unfolding sound
-sound-phase b p = leb-true _ _ (and-right (right-sizes (b .state .m) (b .state .h) b) _ p)
+sound-phase b p = leb-true _ _ (and-right (right-sizes (b .m) (b .h) b) _ p)

@@ -3,10 +3,10 @@ use Prim.Native.Nat.{ℕ, _≤_}
 use mathlib.Core.Bool.{Bool, true, false}
 use mathlib.Core.Path.{_≡_, sym, ap, _∙_}
 use native.Mathlib.Omega.{arith}
-use Rattle.memory.specs.State.{with-held}
-use Rattle.memory.specs.Box.{Box, Reply, reply, with-state, sound}
-use Rattle.memory.specs.Request.{new-tuple}
-use Rattle.memory.specs.Collector.{granted, unheld, rule-of, step}
+use Rattle.rules.specs.Parts.{Box, with-held}
+use Rattle.rules.specs.Box.{Reply, reply, sound}
+use Rattle.rules.specs.Request.{new-tuple}
+use Rattle.rules.specs.Collector.{granted, unheld, rule-of, step}
 use Rattle.memory.specs.Decide.{with-grant}
 use Rattle.memory.proofs.Granting.{ungranted}
 
@@ -18,16 +18,16 @@ pub left-eight : (p : ℕ) → 4 ≤ p → p ≤ 8 → (p ≡ 4 → ⊥) → (p 
 left-eight p l o n4 n5 n6 n7 = omega arith
 
 module _ (b : Box) where
-  pub rule-at : (k : ℕ) (x : Reply) → b .state .phase ≡ k → x ≡ rule-of k b → x ≡ rule-of (b .state .phase) b
+  pub rule-at : (k : ℕ) (x : Reply) → b .collector .phase ≡ k → x ≡ rule-of k b → x ≡ rule-of (b .collector .phase) b
   rule-at k x z q = q ∙ sym (ap (λ (p : ℕ). rule-of p b) z)
 
   -- the rule's reply t and n, where the held request is not granted
-  pub step-plain : (t : Box) (n : ℕ) → (n ≡ 32 → ⊥) → sound b ≡ true → with-grant (reply t n) ≡ rule-of (b .state .phase) b → reply t n ≡ step b
+  pub step-plain : (t : Box) (n : ℕ) → (n ≡ 32 → ⊥) → sound b ≡ true → with-grant (reply t n) ≡ rule-of (b .collector .phase) b → reply t n ≡ step b
   unfolding step
   step-plain t n z e q = sym (ungranted t n z) ∙ simp (e, q)
 
   -- and where it is, with its tuple made
-  pub step-granted : (t a : Box) (n : ℕ) → n ≡ 32 → sound b ≡ true → with-grant (reply t n) ≡ rule-of (b .state .phase) b → a ≡ new-tuple (t .state .«hold_register») (t .state .«hold_size») (t .state .«hold_tag») t → reply (with-state (with-held false (a .state)) a) n ≡ step b
+  pub step-granted : (t a : Box) (n : ℕ) → n ≡ 32 → sound b ≡ true → with-grant (reply t n) ≡ rule-of (b .collector .phase) b → a ≡ new-tuple (t .hold .register) (t .hold .size) (t .hold .tag) t → reply (with-held false a) n ≡ step b
   unfolding step with-grant granted unheld
   step-granted t a n z e q p = simp (e, ← q, z, p)
 

@@ -10,11 +10,12 @@ use Rattle.memory.specs.declared.state.State.{State}
 use Rattle.memory.specs.declared.find.Found as code-found
 use Rattle.memory.specs.declared.find.Found.the-variants.{Slot, NotFound}
 use Rattle.memory.specs.declared.place.Place as code-place
-use Rattle.memory.specs.Box.{Box, Word, Reply, reply, handle-of, names-tuple, register, set-deep, marked, deep}
-use Rattle.memory.specs.Place.{Place, write, can-shade, list-next, mark-live, shade}
+use Rattle.rules.specs.Parts.{Word, Box}
+use Rattle.rules.specs.Box.{Reply, reply, handle-of, names-tuple, register, set-deep, marked, deep}
+use Rattle.rules.specs.Place.{Place, write, can-shade, list-next, mark-live, shade}
 use Rattle.memory.specs.Boxed.{place-of, Within}
 use Rattle.memory.specs.Found.{Use, when-found}
-use Rattle.memory.specs.Request.{at-tuple, at-word, word-number, shades, shaded-first, deepened, store-word, store}
+use Rattle.rules.specs.Request.{at-tuple, at-word, word-number, shades, shaded-first, deepened, store-word, store}
 use Rattle.memory.proofs.Findings.{slot-found, not-found}
 
 -- ---- whether the word is shaded. y is the test as it was made
@@ -24,13 +25,13 @@ module _ (w : Word) (b : Box) (y : Bool) (e : y ≡ names-tuple w) where
   unfolding shades
   shades-none n = simp (← e, n)
 
-  pub shades-rest : y ≡ true → b .state .phase ≡ 0 → false ≡ shades w b
+  pub shades-rest : y ≡ true → b .collector .phase ≡ 0 → false ≡ shades w b
   unfolding shades
-  shades-rest n z = simp (← e, n, lt-leb 1 (b .state .phase) (omega arith))
+  shades-rest n z = simp (← e, n, lt-leb 1 (b .collector .phase) (omega arith))
 
-  pub shades-cycle : y ≡ true → (b .state .phase ≡ 0 → ⊥) → leb (b .state .phase) 3 ≡ shades w b
+  pub shades-cycle : y ≡ true → (b .collector .phase ≡ 0 → ⊥) → leb (b .collector .phase) 3 ≡ shades w b
   unfolding shades
-  shades-cycle n z = simp (← e, n, le-leb 1 (b .state .phase) (omega arith))
+  shades-cycle n z = simp (← e, n, le-leb 1 (b .collector .phase) (omega arith))
 
 -- ---- the word is put, and the tuple may become deep
 
@@ -45,31 +46,31 @@ module _ (w : Word) (h : ℕ) (p : Place) (b x : Box) (y : Bool) (e : y ≡ name
 
 -- ---- shading keeps the sizes
 
-cond-m : (t : Bool) (p q : Box) (m : ℕ) → p .state .m ≡ m → q .state .m ≡ m → cond t p q .state .m ≡ m
+cond-m : (t : Bool) (p q : Box) (m : ℕ) → p .m ≡ m → q .m ≡ m → cond t p q .m ≡ m
 cond-m true p q m e f = e
 cond-m false p q m e f = f
 
-cond-h : (t : Bool) (p q : Box) (m : ℕ) → p .state .h ≡ m → q .state .h ≡ m → cond t p q .state .h ≡ m
+cond-h : (t : Bool) (p q : Box) (m : ℕ) → p .h ≡ m → q .h ≡ m → cond t p q .h ≡ m
 cond-h true p q m e f = e
 cond-h false p q m e f = f
 
-pub shade-m : (h : ℕ) (b x : Box) → x ≡ shade h b → x .state .m ≡ b .state .m
+pub shade-m : (h : ℕ) (b x : Box) → x ≡ shade h b → x .m ≡ b .m
 unfolding shade list-next mark-live
-shade-m h b x e = ap (λ (y : Box). y .state .m) e ∙ cond-m (marked h b) b _ _ refl (cond-m (deep h b) _ _ _ refl refl)
+shade-m h b x e = ap (λ (y : Box). y .m) e ∙ cond-m (marked h b) b _ _ refl (cond-m (deep h b) _ _ _ refl refl)
 
-pub shade-h : (h : ℕ) (b x : Box) → x ≡ shade h b → x .state .h ≡ b .state .h
+pub shade-h : (h : ℕ) (b x : Box) → x ≡ shade h b → x .h ≡ b .h
 unfolding shade list-next mark-live
-shade-h h b x e = ap (λ (y : Box). y .state .h) e ∙ cond-h (marked h b) b _ _ refl (cond-h (deep h b) _ _ _ refl refl)
+shade-h h b x e = ap (λ (y : Box). y .h) e ∙ cond-h (marked h b) b _ _ refl (cond-h (deep h b) _ _ _ refl refl)
 
 pub within-same : (p : code-place.Place) (m n : ℕ) → m ≡ n → Within p m → Within p n
 within-same p m n e w = rw e at w
 
 -- so that a place and the lengths that were right stay so
-pub kept-sizes : (h : ℕ) (b x : Box) → x ≡ shade h b → (l k d t : ℕ) (p : code-place.Place) → l ≡ b .state .m → k ≡ b .state .m → d ≡ b .state .h → t < b .state .h → Within p (b .state .m) → (l ≡ x .state .m) × (k ≡ x .state .m) × (d ≡ x .state .h) × (t < x .state .h) × Within p (x .state .m)
+pub kept-sizes : (h : ℕ) (b x : Box) → x ≡ shade h b → (l k d t : ℕ) (p : code-place.Place) → l ≡ b .m → k ≡ b .m → d ≡ b .h → t < b .h → Within p (b .m) → (l ≡ x .m) × (k ≡ x .m) × (d ≡ x .h) × (t < x .h) × Within p (x .m)
 kept-sizes h b x e l k d t p f g i j w =
     let m = sym (shade-m h b x e) in
     let n = sym (shade-h h b x e) in
-    (f ∙ m, g ∙ m, i ∙ n, rw n at j, within-same p (b .state .m) (x .state .m) m w)
+    (f ∙ m, g ∙ m, i ∙ n, rw n at j, within-same p (b .m) (x .m) m w)
 
 -- ---- the whole: y is the box when the target, of handle h, has been shaded
 

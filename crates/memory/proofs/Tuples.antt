@@ -9,10 +9,10 @@ use lib.Dec.{eqb, leb, ltb}
 use lib.ListN.{getD, set}
 use borrow.Author.Tests.{eq-eqb, ne-eqb, lt-ltb, le-ltb, le-leb, lt-leb, ltb-true, ltb-false, leb-true, leb-false}
 use Rattle.memory.specs.declared.state.State.{State}
-use Rattle.memory.specs.State.{with-registers, with-flags, with-top, with-free, with-live}
-use Rattle.memory.specs.Box.{Box, reply, is-entry}
+use Rattle.rules.specs.Parts.{Box, with-free, with-live, with-top}
+use Rattle.rules.specs.Box.{reply, put-register, is-entry}
 use Rattle.memory.specs.Boxed.{boxed}
-use Rattle.memory.specs.Request.{no-room, collecting, can-make, new-entry, take-room, new-tuple, hold, getm}
+use Rattle.rules.specs.Request.{no-room, collecting, can-make, new-entry, take-room, new-tuple, hold, getm}
 use Rattle.memory.proofs.Compare.{same-test, below-difference}
 use Rattle.memory.proofs.Entries.{entry, entry-nil, entry-far}
 use Rattle.memory.proofs.Sizes.{and-left, and-right}
@@ -32,52 +32,52 @@ or-right false b p = p
 -- ---- whether there is room
 
 module _ (n : ℕ) (b : Box) where
-  pub no-handle : b .state .free ≡ 0 → true ≡ no-room n b
+  pub no-handle : b .free ≡ 0 → true ≡ no-room n b
   unfolding no-room
-  no-handle z = simp (eq-eqb (b .state .free) 0 z)
+  no-handle z = simp (eq-eqb (b .free) 0 z)
 
-  pub top-over : (b .state .free ≡ 0 → ⊥) → b .state .m < b .state .top → true ≡ no-room n b
+  pub top-over : (b .free ≡ 0 → ⊥) → b .m < b .top → true ≡ no-room n b
   unfolding no-room
-  top-over f o = simp (ne-eqb (b .state .free) 0 f, lt-ltb (b .state .m) (b .state .top + n + 1) (omega arith))
+  top-over f o = simp (ne-eqb (b .free) 0 f, lt-ltb (b .m) (b .top + n + 1) (omega arith))
 
-  pub by-rest : (b .state .free ≡ 0 → ⊥) → b .state .top ≤ b .state .m → leb (b .state .m - b .state .top) n ≡ no-room n b
+  pub by-rest : (b .free ≡ 0 → ⊥) → b .top ≤ b .m → leb (b .m - b .top) n ≡ no-room n b
   unfolding no-room
-  by-rest f o = simp (ne-eqb (b .state .free) 0 f, over-test (b .state .m) (b .state .top) n o)
+  by-rest f o = simp (ne-eqb (b .free) 0 f, over-test (b .m) (b .top) n o)
 
-  pub room-top : no-room n b ≡ false → b .state .top + n + 1 ≤ b .state .m
+  pub room-top : no-room n b ≡ false → b .top + n + 1 ≤ b .m
   unfolding no-room
-  room-top t = ltb-false (b .state .m) (b .state .top + n + 1) (or-right (eqb (b .state .free) 0) _ t)
+  room-top t = ltb-false (b .m) (b .top + n + 1) (or-right (eqb (b .free) 0) _ t)
 
 -- ---- whether it can be made
 
 module _ (n : ℕ) (b : Box) where
-  pub make-nil : b .state .free ≡ 0 → false ≡ can-make n b
+  pub make-nil : b .free ≡ 0 → false ≡ can-make n b
   unfolding can-make
-  make-nil z = simp (entry-nil (b .state .free) b z)
+  make-nil z = simp (entry-nil (b .free) b z)
 
-  pub make-far : b .state .h ≤ b .state .free → false ≡ can-make n b
+  pub make-far : b .h ≤ b .free → false ≡ can-make n b
   unfolding can-make
-  make-far f = simp (entry-far (b .state .free) b f)
+  make-far f = simp (entry-far (b .free) b f)
 
-  pub make-rest : (b .state .free ≡ 0 → ⊥) → b .state .free < b .state .h → b .state .phase ≡ 0 → true ≡ can-make n b
+  pub make-rest : (b .free ≡ 0 → ⊥) → b .free < b .h → b .collector .phase ≡ 0 → true ≡ can-make n b
   unfolding can-make collecting
-  make-rest f q z = simp (entry (b .state .free) b (omega arith) q, eq-eqb (b .state .phase) 0 z)
+  make-rest f q z = simp (entry (b .free) b (omega arith) q, eq-eqb (b .collector .phase) 0 z)
 
-  pub make-over : (b .state .free ≡ 0 → ⊥) → b .state .free < b .state .h → (b .state .phase ≡ 0 → ⊥) → b .state .m < b .state .live → false ≡ can-make n b
+  pub make-over : (b .free ≡ 0 → ⊥) → b .free < b .h → (b .collector .phase ≡ 0 → ⊥) → b .m < b .collector .live → false ≡ can-make n b
   unfolding can-make collecting
-  make-over f q z o = simp (entry (b .state .free) b (omega arith) q, ne-eqb (b .state .phase) 0 z, lt-leb (b .state .live + n + 1) (b .state .m) (omega arith))
+  make-over f q z o = simp (entry (b .free) b (omega arith) q, ne-eqb (b .collector .phase) 0 z, lt-leb (b .collector .live + n + 1) (b .m) (omega arith))
 
-  pub make-by-rest : (b .state .free ≡ 0 → ⊥) → b .state .free < b .state .h → (b .state .phase ≡ 0 → ⊥) → b .state .live ≤ b .state .m → ltb n (b .state .m - b .state .live) ≡ can-make n b
+  pub make-by-rest : (b .free ≡ 0 → ⊥) → b .free < b .h → (b .collector .phase ≡ 0 → ⊥) → b .collector .live ≤ b .m → ltb n (b .m - b .collector .live) ≡ can-make n b
   unfolding can-make collecting
-  make-by-rest f q z o = simp (entry (b .state .free) b (omega arith) q, ne-eqb (b .state .phase) 0 z, below-difference (b .state .m) (b .state .live) n o)
+  make-by-rest f q z o = simp (entry (b .free) b (omega arith) q, ne-eqb (b .collector .phase) 0 z, below-difference (b .m) (b .collector .live) n o)
 
-  pub make-entry : can-make n b ≡ true → b .state .free < b .state .h
+  pub make-entry : can-make n b ≡ true → b .free < b .h
   unfolding can-make is-entry
-  make-entry t = ltb-true (b .state .free) (b .state .h) (and-right (leb 1 (b .state .free)) _ (and-left (is-entry (b .state .free) b) _ t))
+  make-entry t = ltb-true (b .free) (b .h) (and-right (leb 1 (b .free)) _ (and-left (is-entry (b .free) b) _ t))
 
-  pub make-live : can-make n b ≡ true → (b .state .phase ≡ 0 → ⊥) → b .state .live + n + 1 ≤ b .state .m
+  pub make-live : can-make n b ≡ true → (b .collector .phase ≡ 0 → ⊥) → b .collector .live + n + 1 ≤ b .m
   unfolding can-make collecting
-  make-live t z = leb-true _ _ (simp (ne-eqb (b .state .phase) 0 z) at (and-right (is-entry (b .state .free) b) _ t))
+  make-live t z = leb-true _ _ (simp (ne-eqb (b .collector .phase) 0 z) at (and-right (is-entry (b .free) b) _ t))
 
 -- ---- what it leaves
 
@@ -89,25 +89,26 @@ rest-live p l k e = simp (eq-eqb p 0 e)
 pub cycle-live : (p l k : ℕ) → (p ≡ 0 → ⊥) → k ≡ cond (not (eqb p 0)) k l
 cycle-live p l k e = simp (ne-eqb p 0 e)
 
-pub made : (ws : List ℕ) (fs : List Bool) (ads ss ls : List ℕ) (ms ds : List Bool) (r n tag control target : ℕ) (s s1 s2 : State) → control ≡ s .free * 65536 + tag → target ≡ s .free * 65536 + 0 → s1 ≡ with-free (getD ls (s .free) 0) (with-top (s .top + n + 1) (with-live (cond (not (eqb (s .phase) 0)) (s .live + n + 1) (s .live)) s)) → s2 ≡ with-registers (set (s1 .registers) r target) (with-flags (set (s1 .flags) r true) s1) → boxed (set ws (s .top) control) (set fs (s .top) false) (set ads (s .free) (s .top)) (set ss (s .free) n) ls (set ms (s .free) (not (eqb (s .phase) 0))) (set ds (s .free) false) s2 ≡ new-tuple r n tag (boxed ws fs ads ss ls ms ds s)
+-- the columns and the numbers are written first, then register r
+pub made : (ws : List ℕ) (fs : List Bool) (ads ss ls : List ℕ) (ms ds : List Bool) (r n tag control target : ℕ) (s : State) (x y : Box) → control ≡ s .free * 65536 + tag → target ≡ s .free * 65536 + 0 → x ≡ with-free (getD ls (s .free) 0) (with-top (s .top + n + 1) (with-live (cond (not (eqb (s .phase) 0)) (s .live + n + 1) (s .live)) (boxed (set ws (s .top) control) (set fs (s .top) false) (set ads (s .free) (s .top)) (set ss (s .free) n) ls (set ms (s .free) (not (eqb (s .phase) 0))) (set ds (s .free) false) s))) → y ≡ put-register r (record { bits = target; flag = true }) x → y ≡ new-tuple r n tag (boxed ws fs ads ss ls ms ds s)
 unfolding collecting new-entry take-room new-tuple
-made ws fs ads ss ls ms ds r n tag control target s s1 s2 p1 p2 p3 p4 = rw (p4, p3, p2, p1)
+made ws fs ads ss ls ms ds r n tag control target s x y p1 p2 p3 p4 = p4 ∙ ap (put-register r (record { bits = target; flag = true })) p3 ∙ rw (p2, p1)
 
 -- ---- GETM
 
 module _ (r n tag : ℕ) (b : Box) where
-  pub getm-large : b .state .m ≤ n → reply b 5 ≡ getm r n tag b
+  pub getm-large : b .m ≤ n → reply b 5 ≡ getm r n tag b
   unfolding getm
-  getm-large o = simp (lt-leb (n + 1) (b .state .m) (omega arith))
+  getm-large o = simp (lt-leb (n + 1) (b .m) (omega arith))
 
-  pub getm-held : (x : Box) (t : Bool) → n < b .state .m → t ≡ no-room n b → t ≡ true → x ≡ hold r n tag b → reply x 7 ≡ getm r n tag b
+  pub getm-held : (x : Box) (t : Bool) → n < b .m → t ≡ no-room n b → t ≡ true → x ≡ hold r n tag b → reply x 7 ≡ getm r n tag b
   unfolding getm
-  getm-held x t o e y d = ap (λ (z : Box). reply z 7) d ∙ simp (le-leb (n + 1) (b .state .m) (omega arith), ← e, y)
+  getm-held x t o e y d = ap (λ (z : Box). reply z 7) d ∙ simp (le-leb (n + 1) (b .m) (omega arith), ← e, y)
 
-  pub getm-made : (x : Box) (t u : Bool) → n < b .state .m → t ≡ no-room n b → t ≡ false → u ≡ can-make n b → u ≡ true → x ≡ new-tuple r n tag b → reply x 0 ≡ getm r n tag b
+  pub getm-made : (x : Box) (t u : Bool) → n < b .m → t ≡ no-room n b → t ≡ false → u ≡ can-make n b → u ≡ true → x ≡ new-tuple r n tag b → reply x 0 ≡ getm r n tag b
   unfolding getm
-  getm-made x t u o e y f z d = ap (λ (z : Box). reply z 0) d ∙ simp (le-leb (n + 1) (b .state .m) (omega arith), ← e, y, ← f, z)
+  getm-made x t u o e y f z d = ap (λ (z : Box). reply z 0) d ∙ simp (le-leb (n + 1) (b .m) (omega arith), ← e, y, ← f, z)
 
-  pub getm-refused : (t u : Bool) → n < b .state .m → t ≡ no-room n b → t ≡ false → u ≡ can-make n b → u ≡ false → reply b 9 ≡ getm r n tag b
+  pub getm-refused : (t u : Bool) → n < b .m → t ≡ no-room n b → t ≡ false → u ≡ can-make n b → u ≡ false → reply b 9 ≡ getm r n tag b
   unfolding getm
-  getm-refused t u o e y f z = simp (le-leb (n + 1) (b .state .m) (omega arith), ← e, y, ← f, z)
+  getm-refused t u o e y f z = simp (le-leb (n + 1) (b .m) (omega arith), ← e, y, ← f, z)

@@ -3,18 +3,18 @@
 use Prim.Native.Nat.{ℕ, _+_, _<_, _≤_}
 use mathlib.Core.Bool.{Bool, not, cond, _&&_, _||_}
 use lib.Dec.{leb, ltb, eqb}
-use Rattle.memory.specs.Limits.{register-count}
-use Rattle.memory.specs.State.{with-top}
+use Rattle.rules.specs.Limits.{register-count}
+use Rattle.rules.specs.Parts.{Box, with-top}
 use mathlib.Core.Path.{_≡_}
 use Rattle.memory.specs.declared.state.State.{State}
-use Rattle.memory.specs.Box.{Box, Reply, reply, with-state, handle-of, names-tuple, register, marked, is-entry}
-use Rattle.memory.specs.Request.{is-register, no-room}
-use Rattle.memory.specs.Collector.{Found, unmarked, damaged, nothing, after, granted}
+use Rattle.rules.specs.Box.{Reply, reply, handle-of, names-tuple, register, marked, is-entry}
+use Rattle.rules.specs.Request.{is-register, no-room}
+use Rattle.rules.specs.Collector.{Found, unmarked, damaged, nothing, after, granted}
 
 -- the end of a cycle is refused: the held request would be granted, and its register or the free handle is wrong
 unfoldable pub end-refused : Box → Bool
 end-refused b =
-    b .state .held && not (no-room (b .state .«hold_size») b) && not (is-register (b .state .«hold_register») && is-entry (b .state .free) b)
+    b .hold .held && not (no-room (b .hold .size) b) && not (is-register (b .hold .register) && is-entry (b .free) b)
 
 -- a phase that grants the held request leaves the tuple itself to the step: what is left when the step has made it
 unfoldable pub with-grant : Reply → Reply
@@ -27,9 +27,9 @@ Grants m h s a = a ≡ 32 → (s .m ≡ m) × (s .h ≡ h) × (s .phase ≡ 0) �
 -- the sweep can leave its tuple: what is behind it is in memory, or it is the last and the end of the cycle is not refused
 unfoldable pub can-leave : Box → Bool
 can-leave b =
-    leb (after b) (b .state .m) && cond (eqb (after b) (b .state .top))
-    (not (end-refused (with-state (with-top (b .state .dest) (b .state)) b)))
-    (ltb (after b) (b .state .m))
+    leb (after b) (b .m) && cond (eqb (after b) (b .top))
+    (not (end-refused (with-top (b .collector .dest) b)))
+    (ltb (after b) (b .m))
 
 -- register r is passed over when roots are looked for: it names no tuple, or a marked one
 unfoldable pub passed-over : ℕ → Box → Bool

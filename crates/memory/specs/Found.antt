@@ -5,8 +5,9 @@ use Rattle.memory.specs.declared.find.Named as code-named
 use Rattle.memory.specs.declared.find.Named.the-variants.{Tuple, Nil, NotNamed}
 use Rattle.memory.specs.declared.find.Found as code-found
 use Rattle.memory.specs.declared.find.Found.the-variants.{Slot, NotFound}
-use Rattle.memory.specs.Box.{Box, Reply, reply}
-use Rattle.memory.specs.Place.{Place}
+use Rattle.rules.specs.Parts.{Box}
+use Rattle.rules.specs.Box.{Reply, reply}
+use Rattle.rules.specs.Place.{Place}
 use Rattle.memory.specs.Boxed.{place-of, Within}
 
 -- a tuple, nil, or a refusal with its number

@@ -1,12 +1,3 @@
-pub mod Limits
-pub mod State
-pub mod Box
 pub mod Boxed
 pub mod Found
-pub mod Place
-pub mod Request
-pub mod Collector
 pub mod Decide
-pub mod Run
-pub mod Open
-pub mod Cases

@@ -8,9 +8,9 @@ ghost use mathlib.Core.List.{List};
 ghost use mathlib.Core.Path.{_≡_};
 ghost use Prim.Native.Nat.{ℕ, _<_};
 ghost use lib.ListN.{length};
-ghost use Rattle.memory.specs.Box.{reply};
+ghost use Rattle.rules.specs.Box.{reply};
 ghost use Rattle.memory.specs.Boxed.{boxed};
-ghost use Rattle.memory.specs.Request.{load, size, tag, tag-at};
+ghost use Rattle.rules.specs.Request.{load, size, tag, tag-at};
 
 impl State {
     // Register r takes the word that s and k name. Answers 0, or what refuses that word, and then nothing is changed.

@@ -5,9 +5,10 @@ ghost use mathlib.Core.Bool.{Bool, true, false};
 ghost use mathlib.Core.List.{List, []};
 ghost use mathlib.Core.Path.{_≡_};
 ghost use Prim.Native.Nat.{ℕ};
-ghost use Rattle.memory.specs.Box.{Box, reply};
+ghost use Rattle.rules.specs.Parts.{Box};
+ghost use Rattle.rules.specs.Box.{reply};
 ghost use Rattle.memory.specs.Boxed.{boxed};
-ghost use Rattle.memory.specs.Collector.{rest, try-held, end-cycle};
+ghost use Rattle.rules.specs.Collector.{rest, try-held, end-cycle};
 ghost use Rattle.memory.specs.Decide.{end-refused, with-grant, Grants};
 
 impl State {

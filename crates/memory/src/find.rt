@@ -6,10 +6,10 @@ ghost use mathlib.Core.List.{List};
 ghost use mathlib.Core.Path.{_≡_};
 ghost use Prim.Native.Nat.{ℕ, _<_, _≤_};
 ghost use lib.ListN.{length};
-ghost use Rattle.memory.specs.Box.{Reply, reply, register};
+ghost use Rattle.rules.specs.Box.{Reply, reply, register};
 ghost use Rattle.memory.specs.Boxed.{boxed};
 ghost use Rattle.memory.specs.Found.{Use, when-named, when-found, RightName, RightSlot};
-ghost use Rattle.memory.specs.Request.{at-tuple, at-word, word-number};
+ghost use Rattle.rules.specs.Request.{at-tuple, at-word, word-number};
 
 // What a register names: a tuple that can be looked up, nil, or neither, with the answer that refuses it.
 pub enum Named {

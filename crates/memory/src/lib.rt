@@ -1,10 +1,9 @@
 // The memory unit: a memory of tagged words, a directory of tuples, eight registers, and a collector that does one
 // small step at a time. The lent parts are seven columns, in this order everywhere: words, flags (M each; flag true
-// means pointer), addresses, sizes, links, marks, deeps (H each). What each call does is said in specs/.
+// means pointer), addresses, sizes, links, marks, deeps (H each). What each call does is said in crate rules.
 mod access;
 mod cycle;
 mod find;
-mod kinds;
 mod mark;
 mod opening;
 mod place;
@@ -22,7 +21,6 @@ mod sweep;
 mod tuple;
 mod word;
 
-pub use kinds::Request;
 pub use opening::open;
 pub use requests::request;
 pub use running::Ran;

@@ -9,9 +9,9 @@ ghost use mathlib.Core.List.{List};
 ghost use mathlib.Core.Path.{_≡_};
 ghost use Prim.Native.Nat.{ℕ, _+_, _<_, _≤_};
 ghost use lib.ListN.{length};
-ghost use Rattle.memory.specs.Box.{reply};
+ghost use Rattle.rules.specs.Box.{reply};
 ghost use Rattle.memory.specs.Boxed.{boxed};
-ghost use Rattle.memory.specs.Collector.{scan, scan-next, scan-word, scan-current, mark-scan, mark-add};
+ghost use Rattle.rules.specs.Collector.{scan, scan-next, scan-word, scan-current, mark-scan, mark-add};
 
 impl State {
     // The state that scans tuple h: its address and size are taken from its entry, and what its link names becomes current.

@@ -6,9 +6,13 @@ ghost use mathlib.Core.Bool.{false};
 ghost use mathlib.Core.Path.{_≡_};
 ghost use Prim.Native.Nat.{_<_, _≤_};
 ghost use lib.ListN.{length, replicate};
-ghost use Rattle.memory.specs.Box.{reply};
+ghost use mathlib.Core.Bool.{Bool};
+ghost use mathlib.Core.List.{List};
+ghost use Prim.Native.Nat.{ℕ};
+ghost use Rattle.rules.specs.Parts.{with-memory, with-directory};
+ghost use Rattle.rules.specs.Box.{reply};
 ghost use Rattle.memory.specs.Boxed.{boxed};
-ghost use Rattle.memory.specs.Open.{opened-state, opened-link, opened-links, opening};
+ghost use Rattle.rules.specs.Open.{opened-link, opened-links, opened, opening};
 
 // Every number becomes 0.
 fn clear(a: &mut [u32])
@@ -62,7 +66,7 @@ fn link_all(links: &mut [u32])
 
 // The state of a new box: registers data 0, the free list from 1, Rest, nothing held, and every other number 0.
 fn new_state(m: u32, h: u32) -> State
-    ensures { λ r. ⌜ r ≡ opened-state m h ⌝ }
+    ensures { λ r. ⌜ ((ws : List ℕ) (fs : List Bool) (ads ss ls : List ℕ) (ms ds : List Bool) → boxed ws fs ads ss ls ms ds r ≡ with-memory (record { words = ws; flags = fs }) (with-directory (record { addresses = ads; sizes = ss; links = ls; marks = ms; deeps = ds }) (opened m h))) ⌝ }
 {
     State {
         m,

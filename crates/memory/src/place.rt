@@ -7,7 +7,7 @@ ghost use mathlib.Core.Path.{_≡_};
 ghost use Prim.Native.Nat.{ℕ, _+_, _<_};
 ghost use lib.Dec.{ltb};
 ghost use lib.ListN.{length};
-ghost use Rattle.memory.specs.Place.{being-moved, place, in-memory, read, write};
+ghost use Rattle.rules.specs.Place.{being-moved, place, in-memory, read, write};
 ghost use Rattle.memory.specs.Boxed.{boxed, word-of, place-of, Within};
 
 // The copy register, or an address, which may lie outside memory.

@@ -7,9 +7,9 @@ ghost use mathlib.Core.Bool.{Bool};
 ghost use mathlib.Core.List.{List};
 ghost use mathlib.Core.Path.{_≡_};
 ghost use Prim.Native.Nat.{ℕ, _<_};
-ghost use Rattle.memory.specs.Box.{reply, data-word, pointer, register, put-register};
+ghost use Rattle.rules.specs.Box.{reply, data-word, pointer, register, put-register};
 ghost use Rattle.memory.specs.Boxed.{boxed, word-of};
-ghost use Rattle.memory.specs.Request.{done, advance, same-word, same};
+ghost use Rattle.rules.specs.Request.{done, advance, same-word, same};
 
 // Whether two words have the same bits and the same flag.
 fn same_word(v: Word, w: Word) -> bool

@@ -7,9 +7,10 @@ ghost use mathlib.Core.List.{List, []};
 ghost use mathlib.Core.Path.{_≡_};
 ghost use Prim.Native.Nat.{ℕ, _+_, _<_, _≤_};
 ghost use lib.ListN.{length};
-ghost use Rattle.memory.specs.Box.{Box, reply};
+ghost use Rattle.rules.specs.Parts.{Box};
+ghost use Rattle.rules.specs.Box.{reply};
 ghost use Rattle.memory.specs.Boxed.{boxed};
-ghost use Rattle.memory.specs.Collector.{leave-tuple, finish-move, copy-word, sweep-read, sweep-clear, sweep-write, zero-word, sweep-zero};
+ghost use Rattle.rules.specs.Collector.{leave-tuple, finish-move, copy-word, sweep-read, sweep-clear, sweep-write, zero-word, sweep-zero};
 ghost use Rattle.memory.specs.Decide.{can-leave, with-grant, Grants};
 
 impl State {

@@ -1,17 +1,18 @@
 // The public call for requests: the order of refusals, and each kind's own method.
-use crate::kinds::Request;
 use crate::sound::sound;
 use crate::state::Answered;
 use crate::state::State;
+use rules::Request;
 ghost use mathlib.Core.Bool.{Bool, true, cond, _&&_};
 ghost use mathlib.Core.List.{List};
 ghost use mathlib.Core.Path.{_≡_};
 ghost use Prim.Native.Nat.{ℕ};
 ghost use lib.ListN.{length};
-ghost use Rattle.memory.specs.declared.kinds.Request.the-variants.{Getm, Store};
-ghost use Rattle.memory.specs.Box.{Box, reply, sound};
+ghost use Rattle.rules.specs.declared.kinds.Request.the-variants.{Getm, Store};
+ghost use Rattle.rules.specs.Parts.{Box};
+ghost use Rattle.rules.specs.Box.{reply, sound};
 ghost use Rattle.memory.specs.Boxed.{boxed, HasLengths};
-ghost use Rattle.memory.specs.Request.{is-register, registers-right, carry-out, request};
+ghost use Rattle.rules.specs.Request.{is-register, registers-right, carry-out, request};
 
 // Whether two numbers are registers.
 fn both(r: u16, s: u16) -> bool
@@ -94,7 +95,7 @@ fn refusal(
     marks: usize,
     deeps: usize,
 ) -> u32
-    ensures { λ r. ⌜ ((b : Box) → b .state ≡ s → HasLengths b words flags addresses sizes links marks deeps → r ≡ cond (sound b) (cond (registers-right q) (cond (b .state .held) 6 0) 1) 9) ⌝ }
+    ensures { λ r. ⌜ ((b : Box) → b .m ≡ s .m → b .h ≡ s .h → b .collector .phase ≡ s .phase → b .hold .held ≡ s .held → HasLengths b words flags addresses sizes links marks deeps → r ≡ cond (sound b) (cond (registers-right q) (cond (b .hold .held) 6 0) 1) 9) ⌝ }
 {
     if sound(s, words, flags, addresses, sizes, links, marks, deeps) {
         if registers_right(q) {

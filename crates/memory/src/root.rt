@@ -7,10 +7,10 @@ ghost use mathlib.Core.List.{List};
 ghost use mathlib.Core.Path.{_≡_};
 ghost use Prim.Native.Nat.{ℕ, _<_, _≤_};
 ghost use lib.ListN.{length};
-ghost use Rattle.memory.specs.Limits.{register-count};
-ghost use Rattle.memory.specs.Box.{reply};
+ghost use Rattle.rules.specs.Limits.{register-count};
+ghost use Rattle.rules.specs.Box.{reply};
 ghost use Rattle.memory.specs.Boxed.{boxed};
-ghost use Rattle.memory.specs.Collector.{look-from, mark-root, end-marking, mark-next};
+ghost use Rattle.rules.specs.Collector.{look-from, mark-root, end-marking, mark-next};
 ghost use Rattle.memory.specs.Decide.{passed-over, found-at, with-grant, Grants};
 
 impl State {

@@ -6,7 +6,7 @@ ghost use mathlib.Core.Bool.{cond, _||_};
 ghost use mathlib.Core.Path.{_≡_};
 ghost use lib.Dec.{eqb};
 ghost use Rattle.memory.specs.Boxed.{boxed};
-ghost use Rattle.memory.specs.Run.{ran, run};
+ghost use Rattle.rules.specs.Run.{ran, run};
 
 // What a run leaves, its answer, and the number of single steps from its first state to its last.
 pub struct Ran {

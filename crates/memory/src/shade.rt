@@ -5,9 +5,9 @@ ghost use mathlib.Core.List.{List, []};
 ghost use mathlib.Core.Path.{_≡_};
 ghost use Prim.Native.Nat.{ℕ, _<_};
 ghost use lib.ListN.{length};
-ghost use Rattle.memory.specs.Box.{is-entry};
+ghost use Rattle.rules.specs.Box.{is-entry};
 ghost use Rattle.memory.specs.Boxed.{boxed};
-ghost use Rattle.memory.specs.Place.{can-shade, shade};
+ghost use Rattle.rules.specs.Place.{can-shade, shade};
 
 impl State {
     // Whether handle h can be looked up: it is 1 to H-1.

@@ -1,8 +1,9 @@
 // What every call tests first: the sizes, the lengths of the lent columns, and the phase.
 use crate::state::State;
 ghost use mathlib.Core.Path.{_≡_};
-ghost use Rattle.memory.specs.Limits.{in-range};
-ghost use Rattle.memory.specs.Box.{Box, lengths-are, right-sizes, sound};
+ghost use Rattle.rules.specs.Limits.{in-range};
+ghost use Rattle.rules.specs.Parts.{Box};
+ghost use Rattle.rules.specs.Box.{lengths-are, right-sizes, sound};
 ghost use Rattle.memory.specs.Boxed.{HasLengths};
 
 // The limits of document 01, as in specs/Limits.antt.
@@ -101,7 +102,7 @@ pub(crate) fn sound(
     marks: usize,
     deeps: usize,
 ) -> bool
-    ensures { λ r. ⌜ ((b : Box) → b .state ≡ s → HasLengths b words flags addresses sizes links marks deeps → r ≡ sound b) ⌝ }
+    ensures { λ r. ⌜ ((b : Box) → b .m ≡ s .m → b .h ≡ s .h → b .collector .phase ≡ s .phase → HasLengths b words flags addresses sizes links marks deeps → r ≡ sound b) ⌝ }
 {
     let m = s.m;
     let h = s.h;

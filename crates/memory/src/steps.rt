@@ -6,9 +6,9 @@ ghost use mathlib.Core.List.{List};
 ghost use mathlib.Core.Path.{_≡_};
 ghost use Prim.Native.Nat.{_<_, _≤_};
 ghost use lib.ListN.{length};
-ghost use Rattle.memory.specs.Box.{reply};
+ghost use Rattle.rules.specs.Box.{reply};
 ghost use Rattle.memory.specs.Boxed.{boxed};
-ghost use Rattle.memory.specs.Collector.{rule-of, step};
+ghost use Rattle.rules.specs.Collector.{rule-of, step};
 ghost use Rattle.memory.specs.Decide.{with-grant, Grants};
 
 impl State {

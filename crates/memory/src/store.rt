@@ -9,10 +9,10 @@ ghost use mathlib.Core.List.{List};
 ghost use mathlib.Core.Path.{_≡_};
 ghost use Prim.Native.Nat.{ℕ, _<_};
 ghost use lib.ListN.{length};
-ghost use Rattle.memory.specs.Box.{reply, sound};
-ghost use Rattle.memory.specs.Place.{write};
+ghost use Rattle.rules.specs.Box.{reply, sound};
+ghost use Rattle.rules.specs.Place.{write};
 ghost use Rattle.memory.specs.Boxed.{boxed, word-of, place-of, Within};
-ghost use Rattle.memory.specs.Request.{shades, deepened, store-word, store};
+ghost use Rattle.rules.specs.Request.{shades, deepened, store-word, store};
 
 impl State {
     // Whether a word is shaded before it is stored: a pointer other than nil, in phase 1, 2 or 3.

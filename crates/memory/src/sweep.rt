@@ -8,10 +8,10 @@ ghost use mathlib.Core.List.{List};
 ghost use mathlib.Core.Path.{_≡_};
 ghost use Prim.Native.Nat.{ℕ, _+_, _<_, _≤_};
 ghost use lib.ListN.{length};
-ghost use Rattle.memory.specs.State.{with-size};
-ghost use Rattle.memory.specs.Box.{reply};
+ghost use Rattle.rules.specs.Parts.{with-size};
+ghost use Rattle.rules.specs.Box.{reply};
 ghost use Rattle.memory.specs.Boxed.{boxed};
-ghost use Rattle.memory.specs.Collector.{go-on, start-zero, keep-in-place, release, sweep-tuple, sweep-scan};
+ghost use Rattle.rules.specs.Collector.{go-on, start-zero, keep-in-place, release, sweep-tuple, sweep-scan};
 ghost use Rattle.memory.specs.Decide.{with-grant, Grants};
 
 impl State {
@@ -56,7 +56,7 @@ impl State {
         marks: &mut [bool],
     ) -> Answered
         requires { ⌜ (length (now words) ≡ self .m) × (length (now flags) ≡ self .m) × (length (now marks) ≡ self .h) × (self .m < 65536) × (self .tuple < self .h) × (self .src + size + 1 ≤ self .m) ⌝ }
-        ensures { λ r. ⌜ ((ads ss ls : List ℕ) (ds : List Bool) → with-grant (reply (boxed (now (words .entry)) (now (flags .entry)) ads ss ls (now (marks .exit)) ds (r .state)) (r .answer)) ≡ keep-in-place (boxed (now (words .entry)) (now (flags .entry)) ads ss ls (now (marks .entry)) ds self) (boxed (now (words .entry)) (now (flags .entry)) ads ss ls (now (marks .entry)) ds (with-size size self))) ⌝ }
+        ensures { λ r. ⌜ ((ads ss ls : List ℕ) (ds : List Bool) → with-grant (reply (boxed (now (words .entry)) (now (flags .entry)) ads ss ls (now (marks .exit)) ds (r .state)) (r .answer)) ≡ keep-in-place (boxed (now (words .entry)) (now (flags .entry)) ads ss ls (now (marks .entry)) ds self) (with-size size (boxed (now (words .entry)) (now (flags .entry)) ads ss ls (now (marks .entry)) ds self))) ⌝ }
         ensures { λ r. ⌜ Grants (self .m) (self .h) (r .state) (r .answer) ⌝ }
     {
         let i = self.tuple as usize;
@@ -93,7 +93,7 @@ impl State {
     // words become data 0. Answers 30, or 9 where the next tuple is not in memory.
     fn release(mut self, size: u32, words: &[u32], flags: &[bool], links: &mut [u32]) -> Answered
         requires { ⌜ (length (now words) ≡ self .m) × (length (now flags) ≡ self .m) × (length (now links) ≡ self .h) × (self .m < 65536) × (self .tuple < self .h) × (self .src + size + 1 ≤ self .m) ⌝ }
-        ensures { λ r. ⌜ ((ads ss : List ℕ) (ms ds : List Bool) → reply (boxed (now (words .entry)) (now (flags .entry)) ads ss (now (links .exit)) ms ds (r .state)) (r .answer) ≡ release (boxed (now (words .entry)) (now (flags .entry)) ads ss (now (links .entry)) ms ds self) (boxed (now (words .entry)) (now (flags .entry)) ads ss (now (links .entry)) ms ds (with-size size self))) ⌝ }
+        ensures { λ r. ⌜ ((ads ss : List ℕ) (ms ds : List Bool) → reply (boxed (now (words .entry)) (now (flags .entry)) ads ss (now (links .exit)) ms ds (r .state)) (r .answer) ≡ release (boxed (now (words .entry)) (now (flags .entry)) ads ss (now (links .entry)) ms ds self) (with-size size (boxed (now (words .entry)) (now (flags .entry)) ads ss (now (links .entry)) ms ds self))) ⌝ }
     {
         let free = self.free;
         let tuple = self.tuple;
@@ -136,7 +136,7 @@ impl State {
         marks: &mut [bool],
     ) -> Answered
         requires { ⌜ (length (now words) ≡ self .m) × (length (now flags) ≡ self .m) × (length (now links) ≡ self .h) × (length (now marks) ≡ self .h) × (self .m < 65536) × (self .tuple < self .h) ⌝ }
-        ensures { λ r. ⌜ ((ads ss : List ℕ) (ds : List Bool) → with-grant (reply (boxed (now (words .entry)) (now (flags .entry)) ads ss (now (links .exit)) (now (marks .exit)) ds (r .state)) (r .answer)) ≡ sweep-tuple (boxed (now (words .entry)) (now (flags .entry)) ads ss (now (links .entry)) (now (marks .entry)) ds self) (boxed (now (words .entry)) (now (flags .entry)) ads ss (now (links .entry)) (now (marks .entry)) ds (with-size size self))) ⌝ }
+        ensures { λ r. ⌜ ((ads ss : List ℕ) (ds : List Bool) → with-grant (reply (boxed (now (words .entry)) (now (flags .entry)) ads ss (now (links .exit)) (now (marks .exit)) ds (r .state)) (r .answer)) ≡ sweep-tuple (boxed (now (words .entry)) (now (flags .entry)) ads ss (now (links .entry)) (now (marks .entry)) ds self) (with-size size (boxed (now (words .entry)) (now (flags .entry)) ads ss (now (links .entry)) (now (marks .entry)) ds self))) ⌝ }
         ensures { λ r. ⌜ Grants (self .m) (self .h) (r .state) (r .answer) ⌝ }
     {
         let src = self.src;

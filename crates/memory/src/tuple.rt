@@ -7,10 +7,10 @@ ghost use mathlib.Core.Path.{_≡_};
 ghost use Prim.Native.Nat.{ℕ, _+_, _*_, _<_, _≤_};
 ghost use lib.Dec.{eqb};
 ghost use lib.ListN.{length, set};
-ghost use Rattle.memory.specs.State.{with-registers, with-flags, with-top, with-free, with-live};
-ghost use Rattle.memory.specs.Box.{reply, sound};
+ghost use Rattle.rules.specs.Parts.{with-top, with-free, with-live};
+ghost use Rattle.rules.specs.Box.{reply, put-register, sound};
 ghost use Rattle.memory.specs.Boxed.{boxed};
-ghost use Rattle.memory.specs.Request.{no-room, can-make, new-tuple, hold, getm};
+ghost use Rattle.rules.specs.Request.{no-room, can-make, new-tuple, hold, getm};
 
 // Two halves of 16 bits as one word: a handle above an offset, or above a tag.
 pub(crate) fn packed(upper: u32, lower: u32) -> u32
@@ -24,7 +24,7 @@ impl State {
     // The state with register r holding these bits and this flag.
     pub(crate) fn put_register(mut self, r: u16, bits: u32, flag: bool) -> State
         requires { ⌜ r < 8 ⌝ }
-        ensures { λ s. ⌜ s ≡ with-registers (set (self .registers) r bits) (with-flags (set (self .flags) r flag) self) ⌝ }
+        ensures { λ s. ⌜ ((ws : List ℕ) (fs : List Bool) (ads ss ls : List ℕ) (ms ds : List Bool) → boxed ws fs ads ss ls ms ds s ≡ put-register r (record { bits = bits; flag = flag }) (boxed ws fs ads ss ls ms ds self)) ⌝ }
     {
         let i = r as usize;
         self.registers[i] = bits;
@@ -91,7 +91,7 @@ impl State {
     // does.
     fn take_room(mut self, n: u16, link: u32) -> State
         requires { ⌜ (self .top + n + 1 ≤ self .m) × ((self .phase ≡ 0 → ⊥) → self .live + n + 1 ≤ self .m) × (self .m < 65536) ⌝ }
-        ensures { λ s. ⌜ s ≡ with-free link (with-top (self .top + n + 1) (with-live (cond (not (eqb (self .phase) 0)) (self .live + n + 1) (self .live)) self)) ⌝ }
+        ensures { λ s. ⌜ ((ws : List ℕ) (fs : List Bool) (ads ss ls : List ℕ) (ms ds : List Bool) → boxed ws fs ads ss ls ms ds s ≡ with-free link (with-top (self .top + n + 1) (with-live (cond (not (eqb (self .phase) 0)) (self .live + n + 1) (self .live)) (boxed ws fs ads ss ls ms ds self)))) ⌝ }
     {
         let words = n as u32;
         let phase = self.phase;

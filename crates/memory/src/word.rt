@@ -4,7 +4,7 @@ ghost use mathlib.Core.Bool.{Bool};
 ghost use mathlib.Core.List.{List};
 ghost use mathlib.Core.Path.{_≡_};
 ghost use Prim.Native.Nat.{ℕ, _<_};
-ghost use Rattle.memory.specs.Box.{handle-of, offset-of, names-tuple, register};
+ghost use Rattle.rules.specs.Box.{handle-of, offset-of, names-tuple, register};
 ghost use Rattle.memory.specs.Boxed.{boxed, word-of};
 
 // 32 bits, and whether they are a pointer.

@@ -9,9 +9,10 @@ use mathlib.Core.Path.{_≡_, refl, sym, ap, _∙_, subst}
 use borrow.Author.Tests.{eq-eqb, le-leb, lt-ltb}
 use native.Mathlib.Omega.{arith}
 use lib.ListN.{length}
-use Rattle.memory.specs.Limits.{register-count}
-use Rattle.memory.specs.Box.{Box, handle-of, names-tuple, register, size-of, lengths-are, right-sizes, sound}
-use Rattle.memory.specs.Place.{Place, place, in-memory}
+use Rattle.rules.specs.Limits.{register-count}
+use Rattle.rules.specs.Parts.{Box}
+use Rattle.rules.specs.Box.{handle-of, names-tuple, register, size-of, lengths-are, right-sizes, sound}
+use Rattle.rules.specs.Place.{Place, place, in-memory}
 use Rattle.history.specs.Agreement.{Member}
 use Rattle.history.proofs.Invariant.Statement.{Ghosts, Inv, all, Kept, settled, moving, unswept, surviving, Shape, Stage, at-rest, finding, scanning, adding, sweeping, reading, clearing, writing, zeroing}
 use Rattle.history.proofs.Lists.Handles.{among-done, among-mid, among-ahead, among-free, among-member}
@@ -26,12 +27,12 @@ kept-listed b g h (moving x) = among-member h (g .plan .done) (g .plan .mid) (g 
 kept-listed b g h (unswept x l) = among-member h (g .plan .done) (g .plan .mid) (g .plan .ahead) (g .free) (among-ahead x)
 kept-listed b g h (surviving x t) = among-member h (g .plan .done) (g .plan .mid) (g .plan .ahead) (g .free) (among-ahead x)
 
-pub kept-bounds : (b : Box) (g : Ghosts) → Inv b g → (h : ℕ) → Kept b (g .plan) h → (1 ≤ h) × (h < b .state .h)
+pub kept-bounds : (b : Box) (g : Ghosts) → Inv b g → (h : ℕ) → Kept b (g .plan) h → (1 ≤ h) × (h < b .h)
 kept-bounds b g v h k = v .handles .entries h (kept-listed b g h k)
 
 -- a register that names a tuple names an entry
 pub register-bounds : (b : Box) (g : Ghosts) → Inv b g → (r : ℕ) → r < register-count → names-tuple (register r b) ≡ true
-    → (1 ≤ handle-of (register r b)) × (handle-of (register r b) < b .state .h)
+    → (1 ≤ handle-of (register r b)) × (handle-of (register r b) < b .h)
 register-bounds b g v r l n = kept-bounds b g v (handle-of (register r b)) (v .contents .roots-kept r l n)
 
 -- ---- words
@@ -46,24 +47,24 @@ place-in-memory b g v h i k l = cases (find b g v h i k l)
     cases (in-words a e s) =
         let t = spot-top b g v h i a s in
         let u = v .layout .top-fits in
-        ap (λ (p : Place). in-memory p b) e ∙ lt-ltb a (b .state .m) (omega arith)
+        ap (λ (p : Place). in-memory p b) e ∙ lt-ltb a (b .m) (omega arith)
 
 -- ---- the free handle and the totals
 
-pub free-listed : (b : Box) (g : Ghosts) → Inv b g → b .state .free ≢ 0 → Member (b .state .free) (g .free)
+pub free-listed : (b : Box) (g : Ghosts) → Inv b g → b .free ≢ 0 → Member (b .free) (g .free)
 free-listed b g v n =
-    let t = chain-head (b .links) (b .state .free) (g .free) (v .handles .free-chain) n in
-    subst (λ (hs : List ℕ). Member (b .state .free) hs) (sym (t .1)) (inl refl)
+    let t = chain-head (b .directory .links) (b .free) (g .free) (v .handles .free-chain) n in
+    subst (λ (hs : List ℕ). Member (b .free) hs) (sym (t .1)) (inl refl)
 
-pub free-bounds : (b : Box) (g : Ghosts) → Inv b g → b .state .free ≢ 0 → (1 ≤ b .state .free) × (b .state .free < b .state .h)
-free-bounds b g v n = v .handles .entries (b .state .free) (among-member (b .state .free) (g .plan .done) (g .plan .mid) (g .plan .ahead) (g .free) (among-free (free-listed b g v n)))
+pub free-bounds : (b : Box) (g : Ghosts) → Inv b g → b .free ≢ 0 → (1 ≤ b .free) × (b .free < b .h)
+free-bounds b g v n = v .handles .entries (b .free) (among-member (b .free) (g .plan .done) (g .plan .mid) (g .plan .ahead) (g .free) (among-free (free-listed b g v n)))
 
-pub live-fits : (b : Box) (g : Ghosts) → Inv b g → (n : ℕ) → b .state .top + n + 1 ≤ b .state .m → b .state .live + n + 1 ≤ b .state .m
+pub live-fits : (b : Box) (g : Ghosts) → Inv b g → (n : ℕ) → b .top + n + 1 ≤ b .m → b .collector .live + n + 1 ≤ b .m
 live-fits b g v n l = omega (arith, live-top b g v)
 
 -- ---- what every call tests first
 
-phase-bound : (b : Box) (g : Ghosts) → Stage b g → b .state .phase ≤ 8
+phase-bound : (b : Box) (g : Ghosts) → Stage b g → b .collector .phase ≤ 8
 phase-bound b g (at-rest e u l m) = omega arith
 phase-bound b g (finding e u c y) = omega arith
 phase-bound b g (scanning e u s c w) = omega arith
@@ -81,12 +82,12 @@ sound-box b g v =
     let s : Shape b = v .shape in
     simp (
       s .range,
-      eq-eqb (length (b .words)) (b .state .m) (s .words-length),
-      eq-eqb (length (b .flags)) (b .state .m) (s .flags-length),
-      eq-eqb (length (b .addresses)) (b .state .h) (s .addresses-length),
-      eq-eqb (length (b .sizes)) (b .state .h) (s .sizes-length),
-      eq-eqb (length (b .links)) (b .state .h) (s .links-length),
-      eq-eqb (length (b .marks)) (b .state .h) (s .marks-length),
-      eq-eqb (length (b .deeps)) (b .state .h) (s .deeps-length),
-      le-leb (b .state .phase) 8 (phase-bound b g (v .stage)),
+      eq-eqb (length (b .memory .words)) (b .m) (s .words-length),
+      eq-eqb (length (b .memory .flags)) (b .m) (s .flags-length),
+      eq-eqb (length (b .directory .addresses)) (b .h) (s .addresses-length),
+      eq-eqb (length (b .directory .sizes)) (b .h) (s .sizes-length),
+      eq-eqb (length (b .directory .links)) (b .h) (s .links-length),
+      eq-eqb (length (b .directory .marks)) (b .h) (s .marks-length),
+      eq-eqb (length (b .directory .deeps)) (b .h) (s .deeps-length),
+      le-leb (b .collector .phase) 8 (phase-bound b g (v .stage)),
     )

@@ -9,9 +9,10 @@ use borrow.Author.Tests.{leb-true, le-leb, lt-ltb, le-ltb}
 use native.Mathlib.Omega.{arith}
 use lib.Dec.{leb}
 use lib.ListN.{length, getD, replicate, length-replicate}
-use Rattle.memory.specs.Limits.{in-range, register-count}
-use Rattle.memory.specs.Box.{Word, data-word, names-tuple, word-at, register}
-use Rattle.memory.specs.Open.{opened, opened-state, opened-link, opened-links}
+use Rattle.rules.specs.Limits.{in-range, register-count}
+use Rattle.rules.specs.Parts.{Word}
+use Rattle.rules.specs.Box.{data-word, names-tuple, word-at, register}
+use Rattle.rules.specs.Open.{opened, opened-link, opened-links}
 use Rattle.history.specs.Agreement.{Member, Distinct}
 use Rattle.history.proofs.Invariant.Statement.{Chain, Inv, Shape, Handles, Layout, Contents, Zero, Marks, Stage, rooms, marked-rooms}
 use Rattle.history.proofs.Invariant.Resting.{resting-plan, resting, none-kept}
@@ -119,7 +120,7 @@ limits m h e =
 -- ---- the groups
 
 open-shape : (m h : ℕ) → in-range m h ≡ true → Shape (opened m h)
-unfolding opened opened-state
+unfolding opened
 open-shape m h e =
     record {
       range = e;
@@ -136,7 +137,7 @@ open-shape m h e =
     }
 
 open-handles : (m h : ℕ) → in-range m h ≡ true → Handles (opened m h) (resting-plan []) (handles-below h)
-unfolding opened opened-state
+unfolding opened
 open-handles m h e =
     record {
       distinct = count-up-distinct 1 (h - 1);
@@ -163,11 +164,11 @@ unfolding opened
 open-word m h a = λ i. record { bits = getD-all m a 0 i; flag = getD-all m a false i }
 
 open-register : (m h r : ℕ) → register r (opened m h) ≡ data-word 0
-unfolding opened opened-state
+unfolding opened
 open-register m h r = λ i. record { bits = getD-all register-count r 0 i; flag = getD-all register-count r false i }
 
 open-layout : (m h : ℕ) → Layout (opened m h) (resting-plan [])
-unfolding opened opened-state rooms
+unfolding opened rooms
 open-layout m h = record { done-laid = refl; ahead-laid = refl; low-base = omega arith; top-fits = omega arith }
 
 open-contents : (m h : ℕ) → Contents (opened m h) (resting-plan [])
@@ -181,7 +182,7 @@ open-zero : (m h : ℕ) → Zero (opened m h) 0
 open-zero m h = record { above-top = λ a l. open-word m h a; behind = λ a l u. open-word m h a }
 
 open-marks : (m h : ℕ) → Marks (opened m h) (resting-plan []) (handles-below h) (resting [] (handles-below h) .scans)
-unfolding opened opened-state rooms marked-rooms
+unfolding opened rooms marked-rooms
 open-marks m h =
     record {
       free-unmarked = λ x y. getD-all h x false;
@@ -198,7 +199,7 @@ open-marks m h =
     }
 
 pub opened-inv : (m h : ℕ) → in-range m h ≡ true → Inv (opened m h) (resting [] (handles-below h))
-unfolding opened opened-state
+unfolding opened
 opened-inv m h e =
     record {
       shape = open-shape m h e;

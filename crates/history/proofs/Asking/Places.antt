@@ -10,8 +10,9 @@ use borrow.Author.Tests.{le-leb, lt-leb, lt-ltb, le-ltb, eq-eqb, ne-eqb}
 use native.Mathlib.Omega.{arith}
 use native.Mathlib.Decide.{ℕ-discrete, decLe, decLt}
 use lib.Dec.{leb, ltb, eqb}
-use Rattle.memory.specs.Box.{Box, word-at, copy-register, address, size-of}
-use Rattle.memory.specs.Place.{Place, copy-place, at, being-moved, place, read}
+use Rattle.rules.specs.Parts.{Box}
+use Rattle.rules.specs.Box.{word-at, address, size-of}
+use Rattle.rules.specs.Place.{Place, copy-place, at, being-moved, place, read}
 use Rattle.history.specs.Agreement.{Member}
 use Rattle.history.proofs.Invariant.Statement.{Ghosts, Inv, word, rooms, Laid, Kept, settled, moving, unswept, surviving, Layout, Move, Stage, at-rest, finding, scanning, adding, sweeping, reading, clearing, writing, zeroing}
 use Rattle.history.proofs.Lists.Handles.{Parts, parts}
@@ -24,50 +25,50 @@ place-still : (h i : ℕ) (b : Box) → being-moved h b ≡ false → place h i 
 unfolding place
 place-still h i b e = simp e
 
-not-moved-other : (h : ℕ) (b : Box) → h ≢ b .state .tuple → being-moved h b ≡ false
+not-moved-other : (h : ℕ) (b : Box) → h ≢ b .collector .tuple → being-moved h b ≡ false
 unfolding being-moved
-not-moved-other h b n = simp (ne-eqb h (b .state .tuple) n)
+not-moved-other h b n = simp (ne-eqb h (b .collector .tuple) n)
 
-not-moved-early : (h : ℕ) (b : Box) → b .state .phase < 5 → being-moved h b ≡ false
+not-moved-early : (h : ℕ) (b : Box) → b .collector .phase < 5 → being-moved h b ≡ false
 unfolding being-moved
-not-moved-early h b l = simp (lt-leb 5 (b .state .phase) l, and-false)
+not-moved-early h b l = simp (lt-leb 5 (b .collector .phase) l, and-false)
 
-not-moved-late : (h : ℕ) (b : Box) → 7 < b .state .phase → being-moved h b ≡ false
+not-moved-late : (h : ℕ) (b : Box) → 7 < b .collector .phase → being-moved h b ≡ false
 unfolding being-moved
-not-moved-late h b l = simp (lt-leb (b .state .phase) 7 l, and-false)
+not-moved-late h b l = simp (lt-leb (b .collector .phase) 7 l, and-false)
 
-place-copied : (h i : ℕ) (b : Box) → h ≡ b .state .tuple → 6 ≤ b .state .phase → b .state .phase ≤ 7 → i ≡ b .state .index → place h i b ≡ copy-place
+place-copied : (h i : ℕ) (b : Box) → h ≡ b .collector .tuple → 6 ≤ b .collector .phase → b .collector .phase ≤ 7 → i ≡ b .collector .index → place h i b ≡ copy-place
 unfolding place being-moved
 place-copied h i b e l u t =
-    let l5 : 5 ≤ b .state .phase = omega arith in
-    simp (eq-eqb h (b .state .tuple) e, le-leb 5 (b .state .phase) l5, le-leb (b .state .phase) 7 u, le-leb 6 (b .state .phase) l, eq-eqb i (b .state .index) t)
+    let l5 : 5 ≤ b .collector .phase = omega arith in
+    simp (eq-eqb h (b .collector .tuple) e, le-leb 5 (b .collector .phase) l5, le-leb (b .collector .phase) 7 u, le-leb 6 (b .collector .phase) l, eq-eqb i (b .collector .index) t)
 
-place-moved : (h i : ℕ) (b : Box) → h ≡ b .state .tuple → 5 ≤ b .state .phase → b .state .phase ≤ 7 → i < b .state .index → place h i b ≡ at (b .state .dest + i)
+place-moved : (h i : ℕ) (b : Box) → h ≡ b .collector .tuple → 5 ≤ b .collector .phase → b .collector .phase ≤ 7 → i < b .collector .index → place h i b ≡ at (b .collector .dest + i)
 unfolding place being-moved
 place-moved h i b e l u t =
-    let n : i ≢ b .state .index = omega arith in
-    simp (eq-eqb h (b .state .tuple) e, le-leb 5 (b .state .phase) l, le-leb (b .state .phase) 7 u, ne-eqb i (b .state .index) n, and-false, lt-ltb i (b .state .index) t)
+    let n : i ≢ b .collector .index = omega arith in
+    simp (eq-eqb h (b .collector .tuple) e, le-leb 5 (b .collector .phase) l, le-leb (b .collector .phase) 7 u, ne-eqb i (b .collector .index) n, and-false, lt-ltb i (b .collector .index) t)
 
-place-unmoved : (h i : ℕ) (b : Box) → b .state .index < i → place h i b ≡ at (address h b + i)
+place-unmoved : (h i : ℕ) (b : Box) → b .collector .index < i → place h i b ≡ at (address h b + i)
 unfolding place being-moved
 place-unmoved h i b t =
-    let n : i ≢ b .state .index = omega arith in
-    let u : b .state .index ≤ i = omega arith in
-    simp (ne-eqb i (b .state .index) n, le-ltb i (b .state .index) u, and-false)
+    let n : i ≢ b .collector .index = omega arith in
+    let u : b .collector .index ≤ i = omega arith in
+    simp (ne-eqb i (b .collector .index) n, le-ltb i (b .collector .index) u, and-false)
 
-place-unread : (h i : ℕ) (b : Box) → b .state .phase ≤ 5 → b .state .index ≤ i → place h i b ≡ at (address h b + i)
+place-unread : (h i : ℕ) (b : Box) → b .collector .phase ≤ 5 → b .collector .index ≤ i → place h i b ≡ at (address h b + i)
 unfolding place being-moved
 place-unread h i b p t =
-    let l : b .state .phase < 6 = omega arith in
-    simp (lt-leb 6 (b .state .phase) l, le-ltb i (b .state .index) t, and-false)
+    let l : b .collector .phase < 6 = omega arith in
+    simp (lt-leb 6 (b .collector .phase) l, le-ltb i (b .collector .index) t, and-false)
 
 -- ---- what the stage says of the numbers
 
 pub data Motion (b : Box) (g : Ghosts) : Type 0 where
-  early : b .state .phase < 5 → g .plan .mid ≡ [] → Motion b g
-  late : 7 < b .state .phase → g .plan .mid ≡ [] → Motion b g
-  in-motion : Move b g → 5 ≤ b .state .phase → b .state .phase ≤ 7 → g .zeroed ≤ b .state .src + b .state .index + 1
-      → (b .state .phase ≤ 5 → g .zeroed ≤ b .state .src + b .state .index) → Motion b g
+  early : b .collector .phase < 5 → g .plan .mid ≡ [] → Motion b g
+  late : 7 < b .collector .phase → g .plan .mid ≡ [] → Motion b g
+  in-motion : Move b g → 5 ≤ b .collector .phase → b .collector .phase ≤ 7 → g .zeroed ≤ b .collector .src + b .collector .index + 1
+      → (b .collector .phase ≤ 5 → g .zeroed ≤ b .collector .src + b .collector .index) → Motion b g
 
 pub motion : (b : Box) (g : Ghosts) → Stage b g → Motion b g
 motion b g (at-rest e u l m) = early (omega arith) (u .no-mid)
@@ -93,29 +94,29 @@ zeroed-base b g (writing e m l z) = omega arith
 zeroed-base b g (zeroing e u n l a d i z) = omega arith
 
 -- what is settled and what is being moved count in live, and live is at most top
-pub low-live : (b : Box) (g : Ghosts) → Inv b g → g .plan .low + rooms b (g .plan .mid) ≤ b .state .live
+pub low-live : (b : Box) (g : Ghosts) → Inv b g → g .plan .low + rooms b (g .plan .mid) ≤ b .collector .live
 low-live b g v = omega (arith, v .marks .live-is)
 
-pub live-top : (b : Box) (g : Ghosts) → Inv b g → b .state .live ≤ b .state .top
+pub live-top : (b : Box) (g : Ghosts) → Inv b g → b .collector .live ≤ b .top
 live-top b g v =
     omega (
       arith,
       v .marks .live-is,
       v .layout .low-base,
-      laid-rooms b (g .plan .base) (g .plan .ahead) (b .state .top) (v .layout .ahead-laid),
+      laid-rooms b (g .plan .base) (g .plan .ahead) (b .top) (v .layout .ahead-laid),
       marked-rooms-le b (g .plan .ahead),
     )
 
-pub base-top : (b : Box) (g : Ghosts) → Inv b g → g .plan .base ≤ b .state .top
-base-top b g v = laid-le b (g .plan .base) (g .plan .ahead) (b .state .top) (v .layout .ahead-laid)
+pub base-top : (b : Box) (g : Ghosts) → Inv b g → g .plan .base ≤ b .top
+base-top b g v = laid-le b (g .plan .base) (g .plan .ahead) (b .top) (v .layout .ahead-laid)
 
 -- ---- the spots
 
 pub data Spot (b : Box) (g : Ghosts) (h i a : ℕ) : Type 0 where
   done-spot : Member h (g .plan .done) → a ≡ address h b + i → i ≤ size-of h b → a < g .plan .low → Spot b g h i a
-  ahead-spot : Member h (g .plan .ahead) → a ≡ address h b + i → i ≤ size-of h b → g .plan .base ≤ a → a < b .state .top → Spot b g h i a
-  moved-spot : Move b g → h ≡ b .state .tuple → a ≡ b .state .dest + i → i < b .state .index → i ≤ b .state .size → Spot b g h i a
-  unmoved-spot : Move b g → h ≡ b .state .tuple → a ≡ b .state .src + i → b .state .index ≤ i → i ≤ b .state .size → g .zeroed ≤ a → Spot b g h i a
+  ahead-spot : Member h (g .plan .ahead) → a ≡ address h b + i → i ≤ size-of h b → g .plan .base ≤ a → a < b .top → Spot b g h i a
+  moved-spot : Move b g → h ≡ b .collector .tuple → a ≡ b .collector .dest + i → i < b .collector .index → i ≤ b .collector .size → Spot b g h i a
+  unmoved-spot : Move b g → h ≡ b .collector .tuple → a ≡ b .collector .src + i → b .collector .index ≤ i → i ≤ b .collector .size → g .zeroed ≤ a → Spot b g h i a
 
 -- one word of laid tuples at one address
 laid-same : (b : Box) (s : ℕ) (hs : List ℕ) (e : ℕ) → Laid b s hs e → (h i k j a : ℕ) → Member h hs → Member k hs → a ≡ address h b + i
@@ -136,7 +137,7 @@ same-spot b g l h i k j a (done-spot x p u d) (ahead-spot y q v e f) = absurd (o
 same-spot b g l h i k j a (done-spot x p u d) (moved-spot m n q v e) = absurd (omega arith)
 same-spot b g l h i k j a (done-spot x p u d) (unmoved-spot m n q v e z) = absurd (omega arith)
 same-spot b g l h i k j a (ahead-spot x p u d f) (done-spot y q v e) = absurd (omega (arith, l .low-base))
-same-spot b g l h i k j a (ahead-spot x p u d f) (ahead-spot y q v e t) = laid-same b (g .plan .base) (g .plan .ahead) (b .state .top) (l .ahead-laid) h i k j a x y p u q v
+same-spot b g l h i k j a (ahead-spot x p u d f) (ahead-spot y q v e t) = laid-same b (g .plan .base) (g .plan .ahead) (b .top) (l .ahead-laid) h i k j a x y p u q v
 same-spot b g l h i k j a (ahead-spot x p u d f) (moved-spot m n q v e) = absurd (omega arith)
 same-spot b g l h i k j a (ahead-spot x p u d f) (unmoved-spot m n q v e z) = absurd (omega arith)
 same-spot b g l h i k j a (moved-spot m n q v e) (done-spot x p u d) = absurd (omega arith)
@@ -151,7 +152,7 @@ same-spot b g l h i k j a (unmoved-spot m n q v e z) (unmoved-spot m′ n′ q�
 -- ---- where a kept tuple's word is
 
 pub data Found (b : Box) (g : Ghosts) (h i : ℕ) : Type 0 where
-  in-copy : place h i b ≡ copy-place → h ≡ b .state .tuple → i ≡ b .state .index → Found b g h i
+  in-copy : place h i b ≡ copy-place → h ≡ b .collector .tuple → i ≡ b .collector .index → Found b g h i
   in-words : (a : ℕ) → place h i b ≡ at a → Spot b g h i a → Found b g h i
 
 -- a member of a list of one
@@ -187,43 +188,43 @@ find-done b g v h i x l =
 
 find-ahead : (b : Box) (g : Ghosts) → Inv b g → (h i : ℕ) → Member h (g .plan .ahead) → i ≤ size-of h b → Found b g h i
 find-ahead b g v h i x l =
-    let t = laid-bounds b (g .plan .base) (g .plan .ahead) (b .state .top) (v .layout .ahead-laid) h x in
+    let t = laid-bounds b (g .plan .base) (g .plan .ahead) (b .top) (v .layout .ahead-laid) h x in
     in-words (address h b + i) (still-place b g (v .stage) h i (λ y. plan-parts b g v .mid-ahead h y x)) (ahead-spot x refl l (omega arith) (omega arith))
 
 find-mid : (b : Box) (g : Ghosts) → Inv b g → (h i : ℕ) → Member h (g .plan .mid) → i ≤ size-of h b → Found b g h i
 find-mid b g v h i x l = cases (motion b g (v .stage))
   where
-    index-fits : Move b g → h ≡ b .state .tuple → i ≤ b .state .size
-    index-fits m e = let s : size-of h b ≡ size-of (b .state .tuple) b = ap (λ (n : ℕ). size-of n b) e in omega (arith, m .size-is)
+    index-fits : Move b g → h ≡ b .collector .tuple → i ≤ b .collector .size
+    index-fits m e = let s : size-of h b ≡ size-of (b .collector .tuple) b = ap (λ (n : ℕ). size-of n b) e in omega (arith, m .size-is)
 
-    unmoved : (m : Move b g) → h ≡ b .state .tuple → place h i b ≡ at (address h b + i) → b .state .index ≤ i → g .zeroed ≤ b .state .src + i → Found b g h i
+    unmoved : (m : Move b g) → h ≡ b .collector .tuple → place h i b ≡ at (address h b + i) → b .collector .index ≤ i → g .zeroed ≤ b .collector .src + i → Found b g h i
     unmoved m e p t z =
-        let a : address h b ≡ b .state .src = ap (λ (n : ℕ). address n b) e ∙ m .src-is in
-        in-words (b .state .src + i) (p ∙ ap (λ (n : ℕ). at (n + i)) a) (unmoved-spot m e refl t (index-fits m e) z)
+        let a : address h b ≡ b .collector .src = ap (λ (n : ℕ). address n b) e ∙ m .src-is in
+        in-words (b .collector .src + i) (p ∙ ap (λ (n : ℕ). at (n + i)) a) (unmoved-spot m e refl t (index-fits m e) z)
 
-    at-index : (m : Move b g) → h ≡ b .state .tuple → 5 ≤ b .state .phase → b .state .phase ≤ 7 → i ≡ b .state .index
-        → (b .state .phase ≤ 5 → g .zeroed ≤ b .state .src + b .state .index) → Dec (b .state .phase ≤ 5) → Found b g h i
+    at-index : (m : Move b g) → h ≡ b .collector .tuple → 5 ≤ b .collector .phase → b .collector .phase ≤ 7 → i ≡ b .collector .index
+        → (b .collector .phase ≤ 5 → g .zeroed ≤ b .collector .src + b .collector .index) → Dec (b .collector .phase ≤ 5) → Found b g h i
     at-index m e p q t f (yes r) =
         let z = f r in
         unmoved m e (place-unread h i b r (omega arith)) (omega arith) (omega arith)
     at-index m e p q t f (no r) = in-copy (place-copied h i b e (omega arith) q t) e t
 
-    behind : (m : Move b g) → h ≡ b .state .tuple → 5 ≤ b .state .phase → b .state .phase ≤ 7
-        → g .zeroed ≤ b .state .src + b .state .index + 1 → (b .state .phase ≤ 5 → g .zeroed ≤ b .state .src + b .state .index)
-        → b .state .index ≤ i → Dec (i ≡ b .state .index) → Found b g h i
-    behind m e p q z f t (yes d) = at-index m e p q d f (decLe (b .state .phase) 5)
+    behind : (m : Move b g) → h ≡ b .collector .tuple → 5 ≤ b .collector .phase → b .collector .phase ≤ 7
+        → g .zeroed ≤ b .collector .src + b .collector .index + 1 → (b .collector .phase ≤ 5 → g .zeroed ≤ b .collector .src + b .collector .index)
+        → b .collector .index ≤ i → Dec (i ≡ b .collector .index) → Found b g h i
+    behind m e p q z f t (yes d) = at-index m e p q d f (decLe (b .collector .phase) 5)
     behind m e p q z f t (no n) = unmoved m e (place-unmoved h i b (omega arith)) t (omega arith)
 
-    by-index : (m : Move b g) → h ≡ b .state .tuple → 5 ≤ b .state .phase → b .state .phase ≤ 7
-        → g .zeroed ≤ b .state .src + b .state .index + 1 → (b .state .phase ≤ 5 → g .zeroed ≤ b .state .src + b .state .index)
-        → Dec (i < b .state .index) → Found b g h i
-    by-index m e p q z f (yes t) = in-words (b .state .dest + i) (place-moved h i b e p q t) (moved-spot m e refl t (index-fits m e))
-    by-index m e p q z f (no n) = behind m e p q z f (omega arith) (ℕ-discrete i (b .state .index))
+    by-index : (m : Move b g) → h ≡ b .collector .tuple → 5 ≤ b .collector .phase → b .collector .phase ≤ 7
+        → g .zeroed ≤ b .collector .src + b .collector .index + 1 → (b .collector .phase ≤ 5 → g .zeroed ≤ b .collector .src + b .collector .index)
+        → Dec (i < b .collector .index) → Found b g h i
+    by-index m e p q z f (yes t) = in-words (b .collector .dest + i) (place-moved h i b e p q t) (moved-spot m e refl t (index-fits m e))
+    by-index m e p q z f (no n) = behind m e p q z f (omega arith) (ℕ-discrete i (b .collector .index))
 
     cases : Motion b g → Found b g h i
     cases (early p e) = absurd (member-none h (g .plan .mid) e x)
     cases (late p e) = absurd (member-none h (g .plan .mid) e x)
-    cases (in-motion m p q z f) = by-index m (member-one h (b .state .tuple) (g .plan .mid) (m .mid-is) x) p q z f (decLt i (b .state .index))
+    cases (in-motion m p q z f) = by-index m (member-one h (b .collector .tuple) (g .plan .mid) (m .mid-is) x) p q z f (decLt i (b .collector .index))
 
 pub find : (b : Box) (g : Ghosts) → Inv b g → (h i : ℕ) → Kept b (g .plan) h → i ≤ size-of h b → Found b g h i
 find b g v h i (settled x) l = find-done b g v h i x l
@@ -233,25 +234,25 @@ find b g v h i (surviving x t) l = find-ahead b g v h i x l
 
 -- ---- a spot lies below top, and not where the sweep has cleared
 
-pub spot-top : (b : Box) (g : Ghosts) → Inv b g → (h i a : ℕ) → Spot b g h i a → a < b .state .top
+pub spot-top : (b : Box) (g : Ghosts) → Inv b g → (h i a : ℕ) → Spot b g h i a → a < b .top
 spot-top b g v h i a (done-spot x p l u) = omega (arith, v .layout .low-base, base-top b g v)
 spot-top b g v h i a (ahead-spot x p l u t) = t
 spot-top b g v h i a (moved-spot m e p l u) = omega (arith, base-top b g v)
 spot-top b g v h i a (unmoved-spot m e p l u z) = omega (arith, base-top b g v)
 
-pub spot-uncleared : (b : Box) (g : Ghosts) → Inv b g → (h i a : ℕ) → Spot b g h i a → b .state .live ≤ a → a < g .zeroed → ⊥
+pub spot-uncleared : (b : Box) (g : Ghosts) → Inv b g → (h i a : ℕ) → Spot b g h i a → b .collector .live ≤ a → a < g .zeroed → ⊥
 spot-uncleared b g v h i a (done-spot x p l u) q r = omega (arith, low-live b g v)
 spot-uncleared b g v h i a (ahead-spot x p l u t) q r = omega (arith, zeroed-base b g (v .stage))
 spot-uncleared b g v h i a (moved-spot m e p l u) q r =
-    let s : rooms b (g .plan .mid) ≡ size-of (b .state .tuple) b + 1 = ap (rooms b) (m .mid-is) ∙ rooms-one b (b .state .tuple) in
+    let s : rooms b (g .plan .mid) ≡ size-of (b .collector .tuple) b + 1 = ap (rooms b) (m .mid-is) ∙ rooms-one b (b .collector .tuple) in
     omega (arith, low-live b g v)
 spot-uncleared b g v h i a (unmoved-spot m e p l u z) q r = omega arith
 
 -- ---- what keeps a kept tuple's word
 
 -- the place goes by these numbers, and by the tuple's address
-pub place-by : (h i : ℕ) (b c : Box) → c .state .phase ≡ b .state .phase → c .state .tuple ≡ b .state .tuple
-    → c .state .index ≡ b .state .index → c .state .dest ≡ b .state .dest → address h c ≡ address h b → place h i c ≡ place h i b
+pub place-by : (h i : ℕ) (b c : Box) → c .collector .phase ≡ b .collector .phase → c .collector .tuple ≡ b .collector .tuple
+    → c .collector .index ≡ b .collector .index → c .collector .dest ≡ b .collector .dest → address h c ≡ address h b → place h i c ≡ place h i b
 unfolding place being-moved
 place-by h i b c p t x d a =
     λ j.
@@ -260,7 +261,7 @@ place-by h i b c p t x d a =
 
 -- its place, and what is there
 pub word-by : (b : Box) (g : Ghosts) (c : Box) → Inv b g → (h i : ℕ) → Kept b (g .plan) h → i ≤ size-of h b → place h i c ≡ place h i b
-    → copy-register c ≡ copy-register b → ((a : ℕ) → Spot b g h i a → word-at a c ≡ word-at a b) → word h i c ≡ word h i b
+    → c .collector .copy ≡ b .collector .copy → ((a : ℕ) → Spot b g h i a → word-at a c ≡ word-at a b) → word h i c ≡ word h i b
 unfolding word read
 word-by b g c v h i k l p r w = ap (λ (q : Place). read q c) p ∙ cases (find b g v h i k l)
   where

@@ -10,11 +10,12 @@ use native.Mathlib.Decide.{ℕ-discrete}
 use lib.Dec.{eqb}
 use lib.ListN.{length-set}
 use lib.Seq.{getD-set-same, getD-set-other}
-use Rattle.memory.specs.Limits.{half-word, register-count}
-use Rattle.memory.specs.Box.{Box, Word, data-word, pointer, handle-of, offset-of, names-tuple, register, put-register, size-of, deep}
-use Rattle.memory.specs.Place.{Place, copy-place, at, being-moved, place, read}
-use Rattle.memory.specs.Request.{hold}
-use Rattle.memory.specs.Collector.{unheld}
+use Rattle.rules.specs.Limits.{half-word, register-count}
+use Rattle.rules.specs.Parts.{Word, Box}
+use Rattle.rules.specs.Box.{data-word, pointer, handle-of, offset-of, names-tuple, register, put-register, size-of, deep}
+use Rattle.rules.specs.Place.{Place, copy-place, at, being-moved, place, read}
+use Rattle.rules.specs.Request.{hold}
+use Rattle.rules.specs.Collector.{unheld}
 use Rattle.history.specs.Calls.{In16}
 use Rattle.history.proofs.Invariant.Statement.{Plan, Ghosts, Inv, word, Kept, Shape, Contents}
 use Rattle.history.proofs.Invariant.Frame.{shape-same, layout-same, zero-same, Quiet, quiet-contents}
@@ -55,10 +56,10 @@ pub put-kept-to : (r : ℕ) (w : Word) (b : Box) (p : Plan) (h : ℕ) → Kept (
 put-kept-to r w b p = steady-kept-to b (put-register r w b) p (put-steady r w b)
 
 pub register-put-same : (r : ℕ) (w : Word) (b : Box) → Shape b → r < register-count → register r (put-register r w b) ≡ w
-register-put-same r w b s l = λ i. record { bits = getD-set-same (b .state .registers) r (w .bits) 0 (omega (arith, s .registers-length)) i; flag = getD-set-same (b .state .flags) r (w .flag) false (omega (arith, s .register-flags-length)) i }
+register-put-same r w b s l = λ i. record { bits = getD-set-same (b .registers .words) r (w .bits) 0 (omega (arith, s .registers-length)) i; flag = getD-set-same (b .registers .flags) r (w .flag) false (omega (arith, s .register-flags-length)) i }
 
 pub register-put-other : (r : ℕ) (w : Word) (b : Box) (s : ℕ) → s ≢ r → register s (put-register r w b) ≡ register s b
-register-put-other r w b s n = λ i. record { bits = getD-set-other (b .state .registers) r s (w .bits) 0 n i; flag = getD-set-other (b .state .flags) r s (w .flag) false n i }
+register-put-other r w b s n = λ i. record { bits = getD-set-other (b .registers .words) r s (w .bits) 0 n i; flag = getD-set-other (b .registers .flags) r s (w .flag) false n i }
 
 pub register-put : (b : Box) (g : Ghosts) → Inv b g → (r : ℕ) (w : Word) → r < register-count → Put b (g .plan) (put-register r w b) r w
 register-put b g v r w l =

@@ -7,7 +7,8 @@ use mathlib.Core.List.{List, [], _∷_, _++_}
 use mathlib.Core.Logic.{_⊎_, inl, inr}
 use mathlib.Core.Path.{_≡_, refl, sym, ap, ap₂, _∙_, subst}
 use native.Mathlib.Omega.{arith}
-use Rattle.memory.specs.Box.{Box, Word, handle-of, names-tuple, address, size-of, marked, deep}
+use Rattle.rules.specs.Parts.{Word, Box}
+use Rattle.rules.specs.Box.{handle-of, names-tuple, address, size-of, marked, deep}
 use Rattle.history.specs.Agreement.{Member}
 use Rattle.history.proofs.Invariant.Statement.{Plan, Scans, Ghosts, Inv, listed, word, rooms, marked-rooms, Control, Kept, moving, unswept, Shape, Handles, Layout, Contents, Zero, Marks, Scan, Move, Stage, at-rest, finding, scanning, adding, sweeping, reading, clearing, writing, zeroing}
 use Rattle.history.proofs.Lists.Handles.{member-left}
@@ -19,24 +20,24 @@ pub record Steady (b c : Box) : Type 0 where
   pub address-same : (h : ℕ) → address h c ≡ address h b
   pub size-same : (h : ℕ) → size-of h c ≡ size-of h b
   pub marked-same : (h : ℕ) → marked h c ≡ marked h b
-  pub links-same : c .links ≡ b .links
-  pub m-same : c .state .m ≡ b .state .m
-  pub h-same : c .state .h ≡ b .state .h
-  pub top-same : c .state .top ≡ b .state .top
-  pub free-same : c .state .free ≡ b .state .free
-  pub phase-same : c .state .phase ≡ b .state .phase
-  pub live-same : c .state .live ≡ b .state .live
-  pub current-same : c .state .current ≡ b .state .current
-  pub next-same : c .state .next ≡ b .state .next
-  pub src-same : c .state .src ≡ b .state .src
-  pub dest-same : c .state .dest ≡ b .state .dest
-  pub tuple-same : c .state .tuple ≡ b .state .tuple
-  pub entry-size-same : c .state .size ≡ b .state .size
-  pub index-same : c .state .index ≡ b .state .index
+  pub links-same : c .directory .links ≡ b .directory .links
+  pub m-same : c .m ≡ b .m
+  pub h-same : c .h ≡ b .h
+  pub top-same : c .top ≡ b .top
+  pub free-same : c .free ≡ b .free
+  pub phase-same : c .collector .phase ≡ b .collector .phase
+  pub live-same : c .collector .live ≡ b .collector .live
+  pub current-same : c .collector .current ≡ b .collector .current
+  pub next-same : c .collector .next ≡ b .collector .next
+  pub src-same : c .collector .src ≡ b .collector .src
+  pub dest-same : c .collector .dest ≡ b .collector .dest
+  pub tuple-same : c .collector .tuple ≡ b .collector .tuple
+  pub entry-size-same : c .collector .size ≡ b .collector .size
+  pub index-same : c .collector .index ≡ b .collector .index
 
 -- a word of a marked tuple, while marking, is as it was or has a marked target
 abbrev pub Safe : Box → Box → ℕ → ℕ → Type 0
-Safe b c h i = (word h i c ≡ word h i b) ⊎ (b .state .phase ≤ 3 → marked h b ≡ true → names-tuple (word h i c) ≡ true → marked (handle-of (word h i c)) b ≡ true)
+Safe b c h i = (word h i c ≡ word h i b) ⊎ (b .collector .phase ≤ 3 → marked h b ≡ true → names-tuple (word h i c) ≡ true → marked (handle-of (word h i c)) b ≡ true)
 
 pub record Rewords (b : Box) (p : Plan) (c : Box) : Type 0 where
   pub controls-same : (h : ℕ) → Kept b p h → word h 0 c ≡ word h 0 b
@@ -77,11 +78,11 @@ steady-marks b c p free s t w v =
     sums : rooms b (p .mid) + marked-rooms b (p .ahead) ≡ rooms c (p .mid) + marked-rooms c (p .ahead)
     sums = sym (ap₂ (λ (x y : ℕ). x + y) (rooms-frame b c (p .mid) (λ h x. t .size-same h)) (marked-rooms-frame b c (p .ahead) (λ h x. t .size-same h) (λ h x. t .marked-same h)))
 
-    dark : c .state .phase ≤ 3 → (h : ℕ) → Member h (p .ahead) → marked h c ≡ true → ¬ Member h (listed s) → (k : ℕ) → k < size-of h c
+    dark : c .collector .phase ≤ 3 → (h : ℕ) → Member h (p .ahead) → marked h c ≡ true → ¬ Member h (listed s) → (k : ℕ) → k < size-of h c
         → names-tuple (word h (k + 1) c) ≡ true → marked (handle-of (word h (k + 1) c)) c ≡ true
     dark l h x m o k u n = t .marked-same (handle-of (word h (k + 1) c)) ∙ cases (w .words-safe h (unswept x lb) k ub)
       where
-        lb : b .state .phase ≤ 3
+        lb : b .collector .phase ≤ 3
         lb = omega (arith, t .phase-same)
 
         ub : k < size-of h b
@@ -114,13 +115,13 @@ steady-move b c g t w m =
       low-is = m .low-is ∙ sym (t .dest-same);
       base-is = omega (arith, m .base-is, t .src-same, t .entry-size-same);
       downward = omega (arith, m .downward, t .src-same, t .dest-same);
-      src-is = subst (λ (k : ℕ). address k c ≡ c .state .src) (sym (t .tuple-same)) (t .address-same (b .state .tuple) ∙ m .src-is ∙ sym (t .src-same));
-      size-is = subst (λ (k : ℕ). size-of k c ≡ c .state .size) (sym (t .tuple-same)) (t .size-same (b .state .tuple) ∙ m .size-is ∙ sym (t .entry-size-same));
-      control = subst (λ (k : ℕ). Control (word k 0 c) k) (sym (t .tuple-same)) (subst (λ (z : Word). Control z (b .state .tuple)) (sym (w .controls-same (b .state .tuple) kept)) (m .control));
+      src-is = subst (λ (k : ℕ). address k c ≡ c .collector .src) (sym (t .tuple-same)) (t .address-same (b .collector .tuple) ∙ m .src-is ∙ sym (t .src-same));
+      size-is = subst (λ (k : ℕ). size-of k c ≡ c .collector .size) (sym (t .tuple-same)) (t .size-same (b .collector .tuple) ∙ m .size-is ∙ sym (t .entry-size-same));
+      control = subst (λ (k : ℕ). Control (word k 0 c) k) (sym (t .tuple-same)) (subst (λ (z : Word). Control z (b .collector .tuple)) (sym (w .controls-same (b .collector .tuple) kept)) (m .control));
     }
   where
-    kept : Kept b (g .plan) (b .state .tuple)
-    kept = moving (subst (λ (ks : List ℕ). Member (b .state .tuple) ks) (sym (m .mid-is)) (inl refl))
+    kept : Kept b (g .plan) (b .collector .tuple)
+    kept = moving (subst (λ (ks : List ℕ). Member (b .collector .tuple) ks) (sym (m .mid-is)) (inl refl))
 
 -- the tuple under the scan is listed
 gray-listed : (s : Scans) (h : ℕ) → s .gray ≡ h ∷ [] → Member h (listed s)
@@ -131,7 +132,7 @@ steady-stage b c g t w v (at-rest e u l m) = at-rest (t .phase-same ∙ e) u l (
 steady-stage b c g t w v (finding e u y z) = finding (t .phase-same ∙ e) u y z
 steady-stage b c g t w v (scanning e u s y z) = scanning (t .phase-same ∙ e) u s (steady-scan b c g s t y) before
   where
-    before : (k : ℕ) → k + 1 < c .state .index → names-tuple (word s (k + 1) c) ≡ true → marked (handle-of (word s (k + 1) c)) c ≡ true
+    before : (k : ℕ) → k + 1 < c .collector .index → names-tuple (word s (k + 1) c) ≡ true → marked (handle-of (word s (k + 1) c)) c ≡ true
     before k l n = t .marked-same (handle-of (word s (k + 1) c)) ∙ cases (w .words-safe s (unswept (v .listed-ahead s (gray-listed (g .scans) s (y .gray-is))) (omega arith)) k (omega (arith, t .index-same)))
       where
         cases : Safe b c s (k + 1) → marked (handle-of (word s (k + 1) c)) b ≡ true
@@ -139,16 +140,16 @@ steady-stage b c g t w v (scanning e u s y z) = scanning (t .phase-same ∙ e) u
         cases (inr f) = f (omega arith) (v .listed-marked s (gray-listed (g .scans) s (y .gray-is))) n
 steady-stage b c g t w v (adding e u s y m z) = adding (t .phase-same ∙ e) u s (steady-scan b c g s t y) (subst (λ (k : ℕ). Member k (g .plan .ahead)) (sym (t .tuple-same)) m) before
   where
-    before : (k : ℕ) → k + 1 < c .state .index → names-tuple (word s (k + 1) c) ≡ true
-        → (marked (handle-of (word s (k + 1) c)) c ≡ true) ⊎ (handle-of (word s (k + 1) c) ≡ c .state .tuple)
+    before : (k : ℕ) → k + 1 < c .collector .index → names-tuple (word s (k + 1) c) ≡ true
+        → (marked (handle-of (word s (k + 1) c)) c ≡ true) ⊎ (handle-of (word s (k + 1) c) ≡ c .collector .tuple)
     before k l n = cases (w .words-safe s (unswept (v .listed-ahead s (gray-listed (g .scans) s (y .gray-is))) (omega arith)) k (omega (arith, t .index-same)))
       where
-        as-before : (x : Word) → (marked (handle-of x) b ≡ true) ⊎ (handle-of x ≡ b .state .tuple) → (marked (handle-of x) c ≡ true) ⊎ (handle-of x ≡ c .state .tuple)
+        as-before : (x : Word) → (marked (handle-of x) b ≡ true) ⊎ (handle-of x ≡ b .collector .tuple) → (marked (handle-of x) c ≡ true) ⊎ (handle-of x ≡ c .collector .tuple)
         as-before x (inl q) = inl (t .marked-same (handle-of x) ∙ q)
         as-before x (inr q) = inr (q ∙ sym (t .tuple-same))
 
-        cases : Safe b c s (k + 1) → (marked (handle-of (word s (k + 1) c)) c ≡ true) ⊎ (handle-of (word s (k + 1) c) ≡ c .state .tuple)
-        cases (inl q) = as-before (word s (k + 1) c) (subst (λ (x : Word). (marked (handle-of x) b ≡ true) ⊎ (handle-of x ≡ b .state .tuple)) (sym q) (z k (omega (arith, t .index-same)) (subst (λ (x : Word). names-tuple x ≡ true) q n)))
+        cases : Safe b c s (k + 1) → (marked (handle-of (word s (k + 1) c)) c ≡ true) ⊎ (handle-of (word s (k + 1) c) ≡ c .collector .tuple)
+        cases (inl q) = as-before (word s (k + 1) c) (subst (λ (x : Word). (marked (handle-of x) b ≡ true) ⊎ (handle-of x ≡ b .collector .tuple)) (sym q) (z k (omega (arith, t .index-same)) (subst (λ (x : Word). names-tuple x ≡ true) q n)))
         cases (inr f) = inl (t .marked-same (handle-of (word s (k + 1) c)) ∙ f (omega arith) (v .listed-marked s (gray-listed (g .scans) s (y .gray-is))) n)
 steady-stage b c g t w v (sweeping e u n l a z hs y) =
     sweeping (t .phase-same ∙ e) u n (l ∙ sym (t .dest-same)) (a ∙ sym (t .src-same)) (z ∙ sym (t .src-same)) hs (y ∙ ap (λ (k : ℕ). k ∷ hs) (sym (t .tuple-same)))

@@ -6,8 +6,9 @@ use mathlib.Core.Bool.{true, false, true≢false, false≢true}
 use mathlib.Core.Logic.{_⊎_, inl, inr}
 use mathlib.Core.Path.{_≡_, refl, sym, _∙_, subst}
 use native.Mathlib.Omega.{arith}
-use Rattle.memory.specs.Box.{Box, Word, handle-of, names-tuple, register, size-of, marked, set-deep}
-use Rattle.memory.specs.Place.{Place, place, write, shade}
+use Rattle.rules.specs.Parts.{Word, Box}
+use Rattle.rules.specs.Box.{handle-of, names-tuple, register, size-of, marked, set-deep}
+use Rattle.rules.specs.Place.{Place, place, write, shade}
 use Rattle.history.specs.Agreement.{Member}
 use Rattle.history.proofs.Invariant.Statement.{Plan, Ghosts, Inv, word, Kept, settled, moving, unswept, surviving}
 use Rattle.history.proofs.Invariant.Frame.{Quiet}
@@ -24,14 +25,14 @@ use Rattle.history.proofs.Asking.Write.{Stored, written-inv, written-st
 -- a pointer is stored while a cycle marks
 pub record Shades (w : Word) (b : Box) : Type 0 where
   pub names : names-tuple w ≡ true
-  pub phase-least : 1 ≤ b .state .phase
-  pub phase-most : b .state .phase ≤ 3
+  pub phase-least : 1 ≤ b .collector .phase
+  pub phase-most : b .collector .phase ≤ 3
 
 -- ---- a change after one that leaves registers, sizes and words alone
 
 stored-after : (b : Box) (p : Plan) (c : Box) (q : Plan) (e : Box) (r : Plan) (h n : ℕ) (w : Word) → ((k : ℕ) → Kept c q k → Kept b p k)
     → ((k : ℕ) → Kept b p k → Kept c q k) → ((x : ℕ) → register x c ≡ register x b)
-    → c .state .h ≡ b .state .h → ((k : ℕ) → Kept b p k → size-of k c ≡ size-of k b)
+    → c .h ≡ b .h → ((k : ℕ) → Kept b p k → size-of k c ≡ size-of k b)
     → ((k : ℕ) → Kept b p k → (i : ℕ) → i ≤ size-of k b → word k i c ≡ word k i b) → Stored c q e r h n w → Stored b p e r h n w
 stored-after b p c q e r h n w to from roots entries sizes words s =
     record {
@@ -47,7 +48,7 @@ stored-after b p c q e r h n w to from roots entries sizes words s =
 -- ---- a pointer is written into a tuple made deep
 
 deep-write-inv : (b : Box) (g : Ghosts) → Inv b g → (h n : ℕ) → Kept b (g .plan) h → n < size-of h b → (w : Word)
-    → Kept b (g .plan) (handle-of w) → (b .state .phase ≤ 3 → marked h b ≡ true → marked (handle-of w) b ≡ true)
+    → Kept b (g .plan) (handle-of w) → (b .collector .phase ≤ 3 → marked h b ≡ true → marked (handle-of w) b ≡ true)
     → Inv (write (place h (n + 1) b) w (set-deep h true b)) g
 deep-write-inv b g v h n k l w t f =
     subst (λ (p : Place). Inv (write p w (set-deep h true b)) g) (deepen-place h b h (n + 1))
@@ -70,7 +71,7 @@ deep-write-stored b g v h n k l w =
 
 -- ---- outside marking: in Rest nothing is marked
 
-rest-unmarked : (b : Box) (g : Ghosts) → Inv b g → b .state .phase ≡ 0 → (h : ℕ) → Kept b (g .plan) h → marked h b ≡ false
+rest-unmarked : (b : Box) (g : Ghosts) → Inv b g → b .collector .phase ≡ 0 → (h : ℕ) → Kept b (g .plan) h → marked h b ≡ false
 rest-unmarked b g v e h (settled x) = v .marks .done-unmarked h x
 rest-unmarked b g v e h (moving x) = v .marks .mid-unmarked h x
 rest-unmarked b g v e h (unswept x p) = rests-of b g (v .stage) e .unmarked h x
@@ -118,10 +119,10 @@ module _ (b : Box) (g : Ghosts) (v : Inv b g) (h n : ℕ) (k : Kept b (g .plan) 
   data-stored = written-stored b g v h n k l w
 
   -- a pointer, in Rest or from the sweep on
-  pub stores-late : Kept b (g .plan) (handle-of w) → (b .state .phase ≡ 0) ⊎ (3 < b .state .phase) → Inv (write (place h (n + 1) b) w (set-deep h true b)) g
+  pub stores-late : Kept b (g .plan) (handle-of w) → (b .collector .phase ≡ 0) ⊎ (3 < b .collector .phase) → Inv (write (place h (n + 1) b) w (set-deep h true b)) g
   stores-late t o = deep-write-inv b g v h n k l w t (λ p m. absurd (cases o p m))
     where
-      cases : (b .state .phase ≡ 0) ⊎ (3 < b .state .phase) → b .state .phase ≤ 3 → marked h b ≡ true → ⊥
+      cases : (b .collector .phase ≡ 0) ⊎ (3 < b .collector .phase) → b .collector .phase ≤ 3 → marked h b ≡ true → ⊥
       cases (inl e) p m = true≢false (sym m ∙ rest-unmarked b g v e h k)
       cases (inr e) p m = omega arith
 

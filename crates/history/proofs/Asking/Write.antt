@@ -9,9 +9,10 @@ use native.Mathlib.Omega.{arith}
 use native.Mathlib.Decide.{ℕ-discrete}
 use lib.ListN.{length-set}
 use lib.Seq.{getD-set-same, getD-set-other}
-use Rattle.memory.specs.Limits.{register-count}
-use Rattle.memory.specs.Box.{Box, Word, data-word, handle-of, names-tuple, word-at, put, register, address, size-of, marked, deep, set-deep}
-use Rattle.memory.specs.Place.{Place, copy-place, at, being-moved, place, read, write}
+use Rattle.rules.specs.Limits.{register-count}
+use Rattle.rules.specs.Parts.{Word, Box}
+use Rattle.rules.specs.Box.{data-word, handle-of, names-tuple, word-at, put, register, address, size-of, marked, deep, set-deep}
+use Rattle.rules.specs.Place.{Place, copy-place, at, being-moved, place, read, write}
 use Rattle.history.specs.Agreement.{Member}
 use Rattle.history.proofs.Invariant.Statement.{Plan, Ghosts, Inv, word, Kept, Shape, Layout, Contents, Zero}
 use Rattle.history.proofs.Lists.Laid.{laid-frame, laid-to, laid-bounds, rooms-frame}
@@ -37,15 +38,15 @@ deepen-place h b k i = refl
 pub deepen-steady : (h : ℕ) (b : Box) → Steady b (set-deep h true b)
 deepen-steady h b = search
 
-pub deepen-deep : (h : ℕ) (b : Box) → Shape b → h < b .state .h → deep h (set-deep h true b) ≡ true
-deepen-deep h b s l = getD-set-same (b .deeps) h true false (omega (arith, s .deeps-length))
+pub deepen-deep : (h : ℕ) (b : Box) → Shape b → h < b .h → deep h (set-deep h true b) ≡ true
+deepen-deep h b s l = getD-set-same (b .directory .deeps) h true false (omega (arith, s .deeps-length))
 
-pub deepen-stays : (h : ℕ) (b : Box) → Shape b → h < b .state .h → (k : ℕ) → deep k b ≡ true → deep k (set-deep h true b) ≡ true
+pub deepen-stays : (h : ℕ) (b : Box) → Shape b → h < b .h → (k : ℕ) → deep k b ≡ true → deep k (set-deep h true b) ≡ true
 deepen-stays h b s l k e = cases (ℕ-discrete k h)
   where
     cases : Dec (k ≡ h) → deep k (set-deep h true b) ≡ true
     cases (yes d) = ap (λ (z : ℕ). deep z (set-deep h true b)) d ∙ deepen-deep h b s l
-    cases (no d) = getD-set-other (b .deeps) h k true false d ∙ e
+    cases (no d) = getD-set-other (b .directory .deeps) h k true false d ∙ e
 
 deepen-shape : (h : ℕ) (b : Box) → Shape b → Shape (set-deep h true b)
 deepen-shape h b s =
@@ -53,7 +54,7 @@ deepen-shape h b s =
     (search length-set)
     s
 
-deepen-contents : (h : ℕ) (b : Box) (p : Plan) → Shape b → h < b .state .h → Contents b p → Contents (set-deep h true b) p
+deepen-contents : (h : ℕ) (b : Box) (p : Plan) → Shape b → h < b .h → Contents b p → Contents (set-deep h true b) p
 deepen-contents h b p s l v = record { roots-kept = λ r u n. from (handle-of (register r b)) (v .roots-kept r u n); words-kept = inside }
   where
     from : (k : ℕ) → Kept b p k → Kept (set-deep h true b) p k
@@ -67,7 +68,7 @@ deepen-contents h b p s l v = record { roots-kept = λ r u n. from (handle-of (r
         let f = v .words-kept k (steady-kept-to b (set-deep h true b) p (deepen-steady h b) k x) i u (subst (λ (z : Word). names-tuple z ≡ true) e n) in
         (subst (λ (z : Word). Kept (set-deep h true b) p (handle-of z)) (sym e) (from (handle-of (word k (i + 1) b)) (f .0)), deepen-stays h b s l k (f .1))
 
-pub deepen-inv : (b : Box) (g : Ghosts) → Inv b g → (h : ℕ) → h < b .state .h → Inv (set-deep h true b) g
+pub deepen-inv : (b : Box) (g : Ghosts) → Inv b g → (h : ℕ) → h < b .h → Inv (set-deep h true b) g
 deepen-inv b g v h l =
     steady-inv b (set-deep h true b) g (deepen-steady h b)
     (record { controls-same = λ k x. deepen-word h b k 0; words-safe = λ k x i u. inl (deepen-word h b k (i + 1)); deeps-stay = deepen-stays h b (v .shape) l })
@@ -105,16 +106,16 @@ write-shape copy-place w b s = search
 write-shape (at a) w b s = search length-set
 
 -- the word is there
-read-written : (p : Place) (w : Word) (b : Box) → Shape b → ((a : ℕ) → p ≡ at a → a < b .state .m) → read p (write p w b) ≡ w
+read-written : (p : Place) (w : Word) (b : Box) → Shape b → ((a : ℕ) → p ≡ at a → a < b .m) → read p (write p w b) ≡ w
 unfolding read write
 read-written copy-place w b s l = refl
 read-written (at a) w b s l =
     let u = l a refl in
-    λ i. record { bits = getD-set-same (b .words) a (w .bits) 0 (omega (arith, s .words-length)) i; flag = getD-set-same (b .flags) a (w .flag) false (omega (arith, s .flags-length)) i }
+    λ i. record { bits = getD-set-same (b .memory .words) a (w .bits) 0 (omega (arith, s .words-length)) i; flag = getD-set-same (b .memory .flags) a (w .flag) false (omega (arith, s .flags-length)) i }
 
 -- nothing is written elsewhere
 put-elsewhere : (a : ℕ) (w : Word) (b : Box) (x : ℕ) → x ≢ a → word-at x (put a w b) ≡ word-at x b
-put-elsewhere a w b x n = λ i. record { bits = getD-set-other (b .words) a x (w .bits) 0 n i; flag = getD-set-other (b .flags) a x (w .flag) false n i }
+put-elsewhere a w b x n = λ i. record { bits = getD-set-other (b .memory .words) a x (w .bits) 0 n i; flag = getD-set-other (b .memory .flags) a x (w .flag) false n i }
 
 write-elsewhere : (p : Place) (w : Word) (b : Box) (x : ℕ) → p ≢ at x → word-at x (write p w b) ≡ word-at x b
 unfolding write
@@ -153,17 +154,17 @@ pub record Stored (b : Box) (p : Plan) (c : Box) (q : Plan) (h n : ℕ) (w : Wor
   pub kept-to : (k : ℕ) → Kept c q k → Kept b p k
   pub kept-from : (k : ℕ) → Kept b p k → Kept c q k
   pub roots-same : (r : ℕ) → register r c ≡ register r b
-  pub h-same : c .state .h ≡ b .state .h
+  pub h-same : c .h ≡ b .h
   pub sizes-same : (k : ℕ) → Kept b p k → size-of k c ≡ size-of k b
   pub word-stored : word h (n + 1) c ≡ w
   pub words-same : (k : ℕ) → Kept b p k → (i : ℕ) → i ≤ size-of k b → (k ≢ h) ⊎ (i ≢ n + 1) → word k i c ≡ word k i b
 
 module _ (b : Box) (g : Ghosts) (v : Inv b g) (h n : ℕ) (kept : Kept b (g .plan) h) (l : n < size-of h b) (w : Word) where
   -- it is in memory
-  written-within : (a : ℕ) → place h (n + 1) b ≡ at a → a < b .state .m
+  written-within : (a : ℕ) → place h (n + 1) b ≡ at a → a < b .m
   written-within a e = cases (find b g v h (n + 1) kept (omega arith))
     where
-      cases : Found b g h (n + 1) → a < b .state .m
+      cases : Found b g h (n + 1) → a < b .m
       cases (in-copy f p o) = absurd (copy-not-at a (sym f ∙ e))
       cases (in-words c f s) = let o : c ≡ a = at-same c a (sym f ∙ e) in let t = spot-top b g v h (n + 1) c s in omega (arith, v .layout .top-fits)
 
@@ -219,7 +220,7 @@ module _ (b : Box) (g : Ghosts) (v : Inv b g) (h n : ℕ) (kept : Kept b (g .pla
   written-layout =
       record {
         done-laid = laid-frame b c 0 (g .plan .done) (g .plan .low) (λ k x. s .address-same k) (λ k x. s .size-same k) done-control (v .layout .done-laid);
-        ahead-laid = laid-to c (g .plan .base) (g .plan .ahead) (b .state .top) (c .state .top) (sym (s .top-same)) (laid-frame b c (g .plan .base) (g .plan .ahead) (b .state .top) (λ k x. s .address-same k) (λ k x. s .size-same k) ahead-control (v .layout .ahead-laid));
+        ahead-laid = laid-to c (g .plan .base) (g .plan .ahead) (b .top) (c .top) (sym (s .top-same)) (laid-frame b c (g .plan .base) (g .plan .ahead) (b .top) (λ k x. s .address-same k) (λ k x. s .size-same k) ahead-control (v .layout .ahead-laid));
         low-base = rw (rooms-frame b c (g .plan .mid) (λ k x. s .size-same k)) (v .layout .low-base);
         top-fits = omega (arith, v .layout .top-fits, s .top-same, s .m-same);
       }
@@ -237,7 +238,7 @@ module _ (b : Box) (g : Ghosts) (v : Inv b g) (h n : ℕ) (kept : Kept b (g .pla
 
       ahead-control : (k : ℕ) → Member k (g .plan .ahead) → word-at (address k b) (write (place h (n + 1) b) w b) ≡ word-at (address k b) b
       ahead-control k x =
-          let y = laid-bounds b (g .plan .base) (g .plan .ahead) (b .state .top) (v .layout .ahead-laid) k x in
+          let y = laid-bounds b (g .plan .base) (g .plan .ahead) (b .top) (v .layout .ahead-laid) k x in
           written-clear (address k b) (λ a t e. let o = same-spot b g (v .layout) h (n + 1) k 0 a t (ahead-spot x (omega arith) (omega arith) (omega arith) (omega arith)) in omega arith)
 
   written-zero : Zero (write (place h (n + 1) b) w b) (g .zeroed)
@@ -246,14 +247,14 @@ module _ (b : Box) (g : Ghosts) (v : Inv b g) (h n : ℕ) (kept : Kept b (g .pla
       s : Steady b (write (place h (n + 1) b) w b)
       s = write-steady (place h (n + 1) b) w b
 
-      above : (x : ℕ) → write (place h (n + 1) b) w b .state .top ≤ x → word-at x (write (place h (n + 1) b) w b) ≡ data-word 0
+      above : (x : ℕ) → write (place h (n + 1) b) w b .top ≤ x → word-at x (write (place h (n + 1) b) w b) ≡ data-word 0
       above x u =
-          let y : b .state .top ≤ x = subst (λ (z : ℕ). z ≤ x) (s .top-same) u in
+          let y : b .top ≤ x = subst (λ (z : ℕ). z ≤ x) (s .top-same) u in
           written-clear x (λ a t e. let o = spot-top b g v h (n + 1) a t in omega arith) ∙ v .zero-words .above-top x y
 
-      cleared : (x : ℕ) → write (place h (n + 1) b) w b .state .live ≤ x → x < g .zeroed → word-at x (write (place h (n + 1) b) w b) ≡ data-word 0
+      cleared : (x : ℕ) → write (place h (n + 1) b) w b .collector .live ≤ x → x < g .zeroed → word-at x (write (place h (n + 1) b) w b) ≡ data-word 0
       cleared x u z =
-          let y : b .state .live ≤ x = subst (λ (z : ℕ). z ≤ x) (s .live-same) u in
+          let y : b .collector .live ≤ x = subst (λ (z : ℕ). z ≤ x) (s .live-same) u in
           written-clear x (λ a t e. spot-uncleared b g v h (n + 1) a t (omega arith) (omega arith)) ∙ v .zero-words .behind x y z
 
   -- what the word names is kept, and the tuple is deep
@@ -291,7 +292,7 @@ module _ (b : Box) (g : Ghosts) (v : Inv b g) (h n : ℕ) (kept : Kept b (g .pla
               let o = v .contents .words-kept k y i z (subst (λ (x : Word). names-tuple x ≡ true) q t) in
               (subst (λ (x : Word). Kept (write (place h (n + 1) b) w b) (g .plan) (handle-of x)) (sym q) (from (handle-of (word k (i + 1) b)) (o .0)), write-deep (place h (n + 1) b) w b k ∙ o .1)
 
-  written-rewords : (b .state .phase ≤ 3 → marked h b ≡ true → names-tuple w ≡ true → marked (handle-of w) b ≡ true) → Rewords b (g .plan) (write (place h (n + 1) b) w b)
+  written-rewords : (b .collector .phase ≤ 3 → marked h b ≡ true → names-tuple w ≡ true → marked (handle-of w) b ≡ true) → Rewords b (g .plan) (write (place h (n + 1) b) w b)
   written-rewords f =
       record {
         controls-same = λ k x. written-other k x 0 (omega arith) (inr (omega arith));
@@ -309,6 +310,6 @@ module _ (b : Box) (g : Ghosts) (v : Inv b g) (h n : ℕ) (kept : Kept b (g .pla
           cases (inr d) = inl (written-other k x (i + 1) (omega arith) d)
 
   pub written-inv : (names-tuple w ≡ true → Kept b (g .plan) (handle-of w) × (deep h b ≡ true))
-      → (b .state .phase ≤ 3 → marked h b ≡ true → names-tuple w ≡ true → marked (handle-of w) b ≡ true)
+      → (b .collector .phase ≤ 3 → marked h b ≡ true → names-tuple w ≡ true → marked (handle-of w) b ≡ true)
       → Inv (write (place h (n + 1) b) w b) g
   written-inv f e = steady-inv b (write (place h (n + 1) b) w b) g (write-steady (place h (n + 1) b) w b) (written-rewords e) (write-shape (place h (n + 1) b) w b (v .shape)) written-layout (written-contents f) written-zero v

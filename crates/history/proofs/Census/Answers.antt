@@ -7,7 +7,7 @@ use mathlib.Core.List.{List}
 use mathlib.Core.Logic.{_≢_, _⊎_}
 use mathlib.Core.Path.{_≡_, refl, sym, subst}
 use native.Mathlib.Omega.{arith}
-use Rattle.memory.specs.Box.{Box}
+use Rattle.rules.specs.Parts.{Box}
 use Rattle.history.specs.Machine.{History, made}
 use Rattle.history.specs.Agreement.{Reachable, Member, Lists, Fits}
 use Rattle.history.specs.Calls.{Pending}
@@ -25,13 +25,13 @@ module _ (b : Box) (g : Ghosts) (m : History) (given : List ℕ) (number : ℕ �
       let k : Keeps b (g .plan) number i = reached b (g .plan) m given number s (v .contents) i x in
       subst (λ (y : ℕ). (1 ≤ y) × (y ≤ made m)) (k .numbered) (s .kept-hold (k .handle) (k .kept) .number-made)
 
-  module _ (e : b .state .phase ≡ 0) where
-    pub granted-justly : (n : ℕ) → b .state .free ≢ 0 → b .state .top + n + 1 ≤ b .state .m → (w : Pending) → w .history-then ≡ m
-        → w .asked .size ≡ n → JustlyAnswered (b .state .m) (b .state .h) (record { hold = w; answer = 32 })
+  module _ (e : b .collector .phase ≡ 0) where
+    pub granted-justly : (n : ℕ) → b .free ≢ 0 → b .top + n + 1 ≤ b .m → (w : Pending) → w .history-then ≡ m
+        → w .asked .size ≡ n → JustlyAnswered (b .m) (b .h) (record { hold = w; answer = 32 })
     granted-justly n f t w q r =
         let is : (ys : List ℕ) × Lists (Reachable m) ys = reachable-list m reachable-made in
-        let y : Fits (b .state .m) (b .state .h) (is .0) n m = fits-if-room b g m given number v s e (is .0) (is .1) n f t in
-        let z : Fits (b .state .m) (b .state .h) (is .0) (w .asked .size) (w .history-then) = subst (λ (x : History). Fits (b .state .m) (b .state .h) (is .0) (w .asked .size) x) (sym q) (subst (λ (x : ℕ). Fits (b .state .m) (b .state .h) (is .0) x m) (sym r) y) in
+        let y : Fits (b .m) (b .h) (is .0) n m = fits-if-room b g m given number v s e (is .0) (is .1) n f t in
+        let z : Fits (b .m) (b .h) (is .0) (w .asked .size) (w .history-then) = subst (λ (x : History). Fits (b .m) (b .h) (is .0) (w .asked .size) x) (sym q) (subst (λ (x : ℕ). Fits (b .m) (b .h) (is .0) x m) (sym r) y) in
         record {
           reachable-then = is .0;
           are-reachable = subst (λ (x : History). Lists (Reachable x) (is .0)) (sym q) (is .1);
@@ -53,12 +53,12 @@ module _ (b : Box) (g : Ghosts) (m : History) (given : List ℕ) (number : ℕ �
         go j u (made-since y) = absurd (omega arith)
 
     pub dropped-justly : ((h : ℕ) → Kept b (g .plan) h → Spared m (number h)) → (n : ℕ)
-        → (b .state .free ≡ 0) ⊎ (b .state .m < b .state .top + n + 1) → (w : Pending) → w .history-then ≡ m → w .asked .size ≡ n
-        → JustlyAnswered (b .state .m) (b .state .h) (record { hold = w; answer = 8 })
+        → (b .free ≡ 0) ⊎ (b .m < b .top + n + 1) → (w : Pending) → w .history-then ≡ m → w .asked .size ≡ n
+        → JustlyAnswered (b .m) (b .h) (record { hold = w; answer = 8 })
     dropped-justly f n o w q r =
         let is : (ys : List ℕ) × Lists (Reachable m) ys = reachable-list m reachable-made in
-        let y : ¬ Fits (b .state .m) (b .state .h) (is .0) n m = no-fit b g m given number v s e (is .0) (is .1) (only-reachable f) n o in
-        let z : ¬ Fits (b .state .m) (b .state .h) (is .0) (w .asked .size) (w .history-then) = subst (λ (x : History). ¬ Fits (b .state .m) (b .state .h) (is .0) (w .asked .size) x) (sym q) (subst (λ (x : ℕ). ¬ Fits (b .state .m) (b .state .h) (is .0) x m) (sym r) y) in
+        let y : ¬ Fits (b .m) (b .h) (is .0) n m = no-fit b g m given number v s e (is .0) (is .1) (only-reachable f) n o in
+        let z : ¬ Fits (b .m) (b .h) (is .0) (w .asked .size) (w .history-then) = subst (λ (x : History). ¬ Fits (b .m) (b .h) (is .0) (w .asked .size) x) (sym q) (subst (λ (x : ℕ). ¬ Fits (b .m) (b .h) (is .0) x m) (sym r) y) in
         record {
           reachable-then = is .0;
           are-reachable = subst (λ (x : History). Lists (Reachable x) (is .0)) (sym q) (is .1);

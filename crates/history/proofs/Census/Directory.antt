@@ -6,7 +6,8 @@ use mathlib.Core.Logic.{_≢_, _⊎_, inl, inr}
 use mathlib.Core.Path.{_≡_, refl, sym, _∙_, ap, ap₂, subst}
 use native.Mathlib.Omega.{arith}
 use lib.ListN.{length, length-append}
-use Rattle.memory.specs.Box.{Box, size-of}
+use Rattle.rules.specs.Parts.{Box}
+use Rattle.rules.specs.Box.{size-of}
 use Rattle.history.specs.Machine.{History, size-at, made}
 use Rattle.history.specs.Agreement.{Reachable, handle-at, Listed, Gone, in-free-list, given-later, Member, Distinct, Lists, room, Fits}
 use Rattle.history.specs.Calls.{World}
@@ -65,17 +66,17 @@ numbers-room f b m (x ∷ hs) e =
 pub record Directory (b : Box) (g : Ghosts) : Type 0 where
   pub no-done : g .plan .done ≡ []
   pub no-mid : g .plan .mid ≡ []
-  pub top-is : rooms b (g .plan .ahead) ≡ b .state .top
-  pub resting : b .state .phase ≡ 0
+  pub top-is : rooms b (g .plan .ahead) ≡ b .top
+  pub resting : b .collector .phase ≡ 0
 
-pub directory : (b : Box) (g : Ghosts) → Inv b g → b .state .phase ≡ 0 → Directory b g
+pub directory : (b : Box) (g : Ghosts) → Inv b g → b .collector .phase ≡ 0 → Directory b g
 directory b g v e =
     let u : Unswept g = unswept-of b g (v .stage) (omega arith) in
     let z : g .plan .base ≡ 0 = u .base-zero in
-    let q : g .plan .base + rooms b (g .plan .ahead) ≡ b .state .top = laid-rooms b (g .plan .base) (g .plan .ahead) (b .state .top) (v .layout .ahead-laid) in
+    let q : g .plan .base + rooms b (g .plan .ahead) ≡ b .top = laid-rooms b (g .plan .base) (g .plan .ahead) (b .top) (v .layout .ahead-laid) in
     record { no-done = u .no-done; no-mid = u .no-mid; top-is = omega arith; resting = e }
 
-module _ (b : Box) (g : Ghosts) (m : History) (given : List ℕ) (number : ℕ → ℕ) (v : Inv b g) (s : Related b (g .plan) m given number) (e : b .state .phase ≡ 0) where
+module _ (b : Box) (g : Ghosts) (m : History) (given : List ℕ) (number : ℕ → ℕ) (v : Inv b g) (s : Related b (g .plan) m given number) (e : b .collector .phase ≡ 0) where
   there : Directory b g
   there = directory b g v e
 
@@ -93,7 +94,7 @@ module _ (b : Box) (g : Ghosts) (m : History) (given : List ℕ) (number : ℕ �
   unfolding alive
   alive-distinct = numbers-distinct number (λ i. handle-at i given) (g .plan .ahead) (λ h x. holds h x .handle-given) (split .ahead-distinct)
 
-  alive-room : room alive m ≡ b .state .top
+  alive-room : room alive m ≡ b .top
   unfolding alive
   alive-room = numbers-room number b m (g .plan .ahead) (λ h x. holds h x .size-same) ∙ there .top-is
 
@@ -111,7 +112,7 @@ module _ (b : Box) (g : Ghosts) (m : History) (given : List ℕ) (number : ℕ �
       h : ℕ
       h = handle-at i given
 
-      entry : (1 ≤ h) × (h < b .state .h)
+      entry : (1 ≤ h) × (h < b .h)
       entry = s .given-entry i (l .0) (l .1)
 
       replaced : Member h (g .plan .ahead) → Gone b given i
@@ -140,7 +141,7 @@ module _ (b : Box) (g : Ghosts) (m : History) (given : List ℕ) (number : ℕ �
       back = ap (λ (y : ℕ). handle-at y given) (sym (r .2)) ∙ holds (r .0) (r .1) .handle-given
 
       go : ¬ Gone b given i
-      go (in-free-list l) = split .ahead-free (r .0) (r .1) (listed-free b g v (r .0) (subst (λ (y : ℕ). Listed b y (b .state .free)) back l))
+      go (in-free-list l) = split .ahead-free (r .0) (r .1) (listed-free b g v (r .0) (subst (λ (y : ℕ). Listed b y (b .free)) back l))
       go (given-later j l u q) =
           let a : length given ≡ made m = s .all-given in
           let n : (1 ≤ i) × (i ≤ made m) = alive-made i x in
@@ -167,32 +168,32 @@ module _ (b : Box) (g : Ghosts) (m : History) (given : List ℕ) (number : ℕ �
         complete = λ i y. minus-in (upto (made m)) alive i (upto-member (made m) i (y .0 .0) (y .0 .1)) (λ x. alive-not-gone i x (y .1));
       }
 
-  pub top-sum : b .state .top + room dead m ≡ room (upto (made m)) m
+  pub top-sum : b .top + room dead m ≡ room (upto (made m)) m
   unfolding dead
   top-sum =
       let e : room (upto (made m)) m ≡ room alive m + room (minus (upto (made m)) alive) m = minus-room (upto (made m)) alive m alive-distinct alive-within in
-      let q : room alive m ≡ b .state .top = alive-room in
+      let q : room alive m ≡ b .top = alive-room in
       omega arith
 
   -- ---- the hold
 
   -- handles in use and handles free
-  free-count : suc (length (g .plan .ahead) + length (g .free)) ≡ b .state .h
+  free-count : suc (length (g .plan .ahead) + length (g .free)) ≡ b .h
   free-count =
       ap suc (sym (length-append (g .plan .ahead) (g .free)))
       ∙ ap suc (ap length (ap₂ (λ (x y : List ℕ). x ++ (y ++ (g .plan .ahead ++ g .free))) (sym (there .no-done)) (sym (there .no-mid))))
       ∙ v .handles .count
 
   -- the free list is empty exactly where its head is 0
-  free-some : b .state .free ≢ 0 → 1 ≤ length (g .free)
-  free-some f = go (chain-headed (b .links) (b .state .free) (g .free) (v .handles .free-chain))
+  free-some : b .free ≢ 0 → 1 ≤ length (g .free)
+  free-some f = go (chain-headed (b .directory .links) (b .free) (g .free) (v .handles .free-chain))
     where
-      go : Headed (b .links) (b .state .free) (g .free) → 1 ≤ length (g .free)
+      go : Headed (b .directory .links) (b .free) (g .free) → 1 ≤ length (g .free)
       go (no-head z q) = absurd (f z)
       go (head-first tl q c) = rw q (omega arith)
 
-  free-none : b .state .free ≡ 0 → length (g .free) ≡ 0
-  free-none z = ap length (chain-empty (b .links) (b .state .free) (g .free) (v .handles .free-chain) (λ h x. v .handles .entries h (among-member h (g .plan .done) (g .plan .mid) (g .plan .ahead) (g .free) (among-free x)) .0) z)
+  free-none : b .free ≡ 0 → length (g .free) ≡ 0
+  free-none z = ap length (chain-empty (b .directory .links) (b .free) (g .free) (v .handles .free-chain) (λ h x. v .handles .entries h (among-member h (g .plan .done) (g .plan .mid) (g .plan .ahead) (g .free) (among-free x)) .0) z)
 
   -- the reachable tuples are in the directory
   reachable-alive : (i : ℕ) → Reachable m i → Member i alive
@@ -202,43 +203,43 @@ module _ (b : Box) (g : Ghosts) (m : History) (given : List ℕ) (number : ℕ �
       subst (λ (y : ℕ). Member y (numbers number (g .plan .ahead))) (k .numbered) (numbers-in number (g .plan .ahead) (k .handle) (kept-ahead b g (k .handle) (unswept-of b g (v .stage) (omega arith)) (k .kept)))
 
   -- a list of reachable tuples takes no more than the directory does, in words and in handles
-  pub fits-if-room : (is : List ℕ) → Lists (Reachable m) is → (n : ℕ) → b .state .free ≢ 0 → b .state .top + n + 1 ≤ b .state .m → Fits (b .state .m) (b .state .h) is n m
+  pub fits-if-room : (is : List ℕ) → Lists (Reachable m) is → (n : ℕ) → b .free ≢ 0 → b .top + n + 1 ≤ b .m → Fits (b .m) (b .h) is n m
   unfolding alive
   fits-if-room is l n f t =
       let w : Sublist is (numbers number (g .plan .ahead)) = λ i x. reachable-alive i (l .sound i x) in
       let r : room is m ≤ room (numbers number (g .plan .ahead)) m = sublist-room (numbers number (g .plan .ahead)) is m (l .distinct) w in
       let k : length is ≤ length (numbers number (g .plan .ahead)) = sublist-length (numbers number (g .plan .ahead)) is (l .distinct) w in
-      let e₁ : room (numbers number (g .plan .ahead)) m ≡ b .state .top = alive-room in
+      let e₁ : room (numbers number (g .plan .ahead)) m ≡ b .top = alive-room in
       let e₂ : length (numbers number (g .plan .ahead)) ≡ length (g .plan .ahead) = numbers-length number (g .plan .ahead) in
-      let c : suc (length (g .plan .ahead) + length (g .free)) ≡ b .state .h = free-count in
+      let c : suc (length (g .plan .ahead) + length (g .free)) ≡ b .h = free-count in
       let o : 1 ≤ length (g .free) = free-some f in
       record { words-fit = omega arith; handles-fit = omega arith }
 
   -- where the directory has the reachable tuples only, no room means that they don't fit
   pub no-fit : (is : List ℕ) → Lists (Reachable m) is → ((i : ℕ) → Member i alive → Reachable m i) → (n : ℕ)
-      → (b .state .free ≡ 0) ⊎ (b .state .m < b .state .top + n + 1) → ¬ Fits (b .state .m) (b .state .h) is n m
+      → (b .free ≡ 0) ⊎ (b .m < b .top + n + 1) → ¬ Fits (b .m) (b .h) is n m
   unfolding alive
   no-fit is l a n r f = go r
     where
       w : Sublist (numbers number (g .plan .ahead)) is
       w = λ i x. l .complete i (a i x)
 
-      go : (b .state .free ≡ 0) ⊎ (b .state .m < b .state .top + n + 1) → ⊥
+      go : (b .free ≡ 0) ⊎ (b .m < b .top + n + 1) → ⊥
       go (inl z) =
           let k : length (numbers number (g .plan .ahead)) ≤ length is = sublist-length is (numbers number (g .plan .ahead)) alive-distinct w in
           let e₂ : length (numbers number (g .plan .ahead)) ≡ length (g .plan .ahead) = numbers-length number (g .plan .ahead) in
-          let c : suc (length (g .plan .ahead) + length (g .free)) ≡ b .state .h = free-count in
+          let c : suc (length (g .plan .ahead) + length (g .free)) ≡ b .h = free-count in
           let o : length (g .free) ≡ 0 = free-none z in
-          let u : length is + 1 ≤ b .state .h - 1 = f .handles-fit in
+          let u : length is + 1 ≤ b .h - 1 = f .handles-fit in
           omega arith
       go (inr z) =
           let r : room (numbers number (g .plan .ahead)) m ≤ room is m = sublist-room is (numbers number (g .plan .ahead)) m alive-distinct w in
-          let e₁ : room (numbers number (g .plan .ahead)) m ≡ b .state .top = alive-room in
-          let u : room is m + (n + 1) ≤ b .state .m = f .words-fit in
+          let e₁ : room (numbers number (g .plan .ahead)) m ≡ b .top = alive-room in
+          let u : room is m + (n + 1) ≤ b .m = f .words-fit in
           omega arith
 
 pub rest-sum : (w : World) (g : Ghosts) (number : ℕ → ℕ) → Inv (w .box) g → Related (w .box) (g .plan) (w .history) (w .log .given) number
-    → w .box .state .phase ≡ 0 → RestSum w
+    → w .box .collector .phase ≡ 0 → RestSum w
 rest-sum w g number v s e =
     record {
       all-made = upto (made (w .history));

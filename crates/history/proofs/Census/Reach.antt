@@ -8,7 +8,7 @@ use mathlib.Core.Path.{_≡_, refl, sym, _∙_, ap, subst}
 use native.Mathlib.Decide.{ℕ-discrete}
 use native.Mathlib.Omega.{arith}
 use lib.ListN.{length}
-use Rattle.memory.specs.Limits.{register-count}
+use Rattle.rules.specs.Limits.{register-count}
 use Rattle.history.specs.Machine.{HWord, datum, pointer-to, History, register-of, size-at, word-of, made}
 use Rattle.history.specs.Agreement.{Reachable, by-register, by-word, Member, Distinct, Lists}
 use Rattle.history.proofs.Lists.Handles.{member?}

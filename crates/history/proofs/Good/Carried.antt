@@ -9,12 +9,13 @@ use mathlib.Core.Option.{some}
 use mathlib.Core.Path.{_≡_, refl, sym, _∙_, ap, subst}
 use native.Mathlib.Omega.{arith}
 use lib.Dec.{ltb}
-use Rattle.memory.specs.declared.kinds.Request.{Request}
-use Rattle.memory.specs.declared.kinds.Request.the-variants.{Setd, Nil, Move, Advance, Getm, Load, Store, Size, Tag, Same}
-use Rattle.memory.specs.Limits.{register-count, half-word}
-use Rattle.memory.specs.Box.{Box, Word, handle-of, names-tuple, register, put-register, marked, set-deep}
-use Rattle.memory.specs.Place.{Place, copy-place, at, write, shade}
-use Rattle.memory.specs.Request.{hold, new-entry, take-room, new-tuple}
+use Rattle.rules.specs.declared.kinds.Request.{Request}
+use Rattle.rules.specs.declared.kinds.Request.the-variants.{Setd, Nil, Move, Advance, Getm, Load, Store, Size, Tag, Same}
+use Rattle.rules.specs.Limits.{register-count, half-word}
+use Rattle.rules.specs.Parts.{Word, Box}
+use Rattle.rules.specs.Box.{handle-of, names-tuple, register, put-register, marked, set-deep}
+use Rattle.rules.specs.Place.{Place, copy-place, at, write, shade}
+use Rattle.rules.specs.Request.{hold, new-entry, take-room, new-tuple}
 use Rattle.history.specs.Machine.{Asked as Wanted, word-of, HWord, datum, pointer-to, History, register-of, size-at, made, put-in, make, advance-by, load-from, store-to, size-to, tag-to, do-request, hold-request, with-hold}
 use Rattle.history.specs.Calls.{Pending, Log, given-by, disturb, pend, log-done, log-held}
 use Rattle.history.proofs.Invariant.Statement.{Scans, Ghosts, Inv, Kept}
@@ -91,13 +92,13 @@ request-hold (Same r s u) t = refl
 
 -- what it leaves of the sizes, the hold and the phase
 pub record Stays (b c : Box) : Type 0 where
-  pub m-same : c .state .m ≡ b .state .m
-  pub h-same : c .state .h ≡ b .state .h
-  pub held-same : c .state .held ≡ b .state .held
-  pub phase-same : c .state .phase ≡ b .state .phase
+  pub m-same : c .m ≡ b .m
+  pub h-same : c .h ≡ b .h
+  pub held-same : c .hold .held ≡ b .hold .held
+  pub phase-same : c .collector .phase ≡ b .collector .phase
 
 pub good-done : (m h : ℕ) (b : Box) (t : History) (l : Log) (k : Good m h b t l) (q : Request) (c : Box) (g : Ghosts) (number : ℕ → ℕ)
-    → b .state .held ≡ false → Stays b c → Inv c g → Related c (g .plan) (do-request q t) (given-by q c (l .given)) number
+    → b .hold .held ≡ false → Stays b c → Inv c g → Related c (g .plan) (do-request q t) (given-by q c (l .given)) number
     → ((started : History) → Tracked b (k .ghosts .plan) t (k .number) started → Tracked c (g .plan) (do-request q t) number started)
     → Good m h c (do-request q t) (log-done q c l)
 unfolding log-done disturb
@@ -115,7 +116,7 @@ good-done m h b t l k q c g number u s v r x =
       past = k .past;
     }
   where
-    free : c .state .held ≡ false
+    free : c .hold .held ≡ false
     free = s .held-same ∙ u
 
     cycle : Cycling b (k .ghosts) t (k .number) (l .cycle) → Cycling c g (do-request q t) number (disturb (l .cycle))
@@ -130,7 +131,7 @@ good-done m h b t l k q c g number u s v r x =
 
 -- ---- a request put on hold
 
-hold-m : (r n tag : ℕ) (b : Box) → hold r n tag b .state .m ≡ b .state .m
+hold-m : (r n tag : ℕ) (b : Box) → hold r n tag b .m ≡ b .m
 unfolding hold
 hold-m r n tag b = refl
 
@@ -142,7 +143,7 @@ abbrev put-off : ℕ → ℕ → ℕ → History → Pending
 put-off r n tag t = record { asked = wanted r n tag; history-then = with-hold (some (wanted r n tag)) t; steps = 0 }
 
 pub good-hold : (m h : ℕ) (b : Box) (t : History) (l : Log) (k : Good m h b t l) (r n tag : ℕ) → r < register-count → tag < half-word
-    → b .state .held ≡ false → Good m h (hold r n tag b) (hold-request (Getm r n tag) t) (log-held (hold-request (Getm r n tag) t) l)
+    → b .hold .held ≡ false → Good m h (hold r n tag b) (hold-request (Getm r n tag) t) (log-held (hold-request (Getm r n tag) t) l)
 unfolding hold hold-request log-held pend
 good-hold m h b t l k r n tag lr tg u =
     record {
@@ -161,7 +162,7 @@ good-hold m h b t l k r n tag lr tg u =
     same : left (hold r n tag b) (k .ghosts) ≡ left b (k .ghosts)
     same = left-held r n tag b (k .ghosts) (k .ghosts) (k .inv) (invariant-hold b (k .ghosts) (k .inv) r n tag lr tg)
 
-    bound : left b (k .ghosts) ≤ 8 * b .state .m + 2
+    bound : left b (k .ghosts) ≤ 8 * b .m + 2
     bound = left-bound-m b (k .ghosts) (k .inv)
 
     wait : Held (hold r n tag b) (k .ghosts) (with-hold (some (wanted r n tag)) t) (wanted r n tag) (put-off r n tag t)
@@ -193,17 +194,17 @@ good-hold m h b t l k r n tag lr tg u =
 
 -- ---- each kind
 
-new-held : (r n tag : ℕ) (b : Box) → new-tuple r n tag b .state .held ≡ b .state .held
+new-held : (r n tag : ℕ) (b : Box) → new-tuple r n tag b .hold .held ≡ b .hold .held
 unfolding new-tuple take-room new-entry
 new-held r n tag b = refl
 
 -- a write at a place changes memory or the copy register alone
 record WriteKeeps (b c : Box) : Type 0 where
-  m-same : c .state .m ≡ b .state .m
-  h-same : c .state .h ≡ b .state .h
-  held-same : c .state .held ≡ b .state .held
-  phase-same : c .state .phase ≡ b .state .phase
-  tuple-same : c .state .tuple ≡ b .state .tuple
+  m-same : c .m ≡ b .m
+  h-same : c .h ≡ b .h
+  held-same : c .hold .held ≡ b .hold .held
+  phase-same : c .collector .phase ≡ b .collector .phase
+  tuple-same : c .collector .tuple ≡ b .collector .tuple
   marked-same : (x : ℕ) → marked x c ≡ marked x b
 
 write-keeps : (p : Place) (w : Word) (b : Box) → WriteKeeps b (write p w b)
@@ -211,7 +212,7 @@ unfolding write
 write-keeps copy-place w b = search
 write-keeps (at a) w b = search
 
-module _ (m h : ℕ) (b : Box) (t : History) (l : Log) (k : Good m h b t l) (u : b .state .held ≡ false) where
+module _ (m h : ℕ) (b : Box) (t : History) (l : Log) (k : Good m h b t l) (u : b .hold .held ≡ false) where
   abbrev g : Ghosts
   g = k .ghosts
 
@@ -228,11 +229,11 @@ module _ (m h : ℕ) (b : Box) (t : History) (l : Log) (k : Good m h b t l) (u :
         kept-to = put-kept-to r w b (g .plan);
       }) (spared-request t started (tracked-in b (g .plan) t (k .number) started x) (k .eight) q) x)
 
-  pub good-new : (r n tag : ℕ) → r < register-count → tag < half-word → b .state .free ≢ 0 → b .state .top + n + 1 ≤ b .state .m
+  pub good-new : (r n tag : ℕ) → r < register-count → tag < half-word → b .free ≢ 0 → b .top + n + 1 ≤ b .m
       → Good m h (new-tuple r n tag b) (do-request (Getm r n tag) t) (log-done (Getm r n tag) (new-tuple r n tag b) l)
   unfolding do-request given-by
   good-new r n tag lr tg fr fit =
-      good-done m h b t l k (Getm r n tag) (new-tuple r n tag b) (made-ghosts g (b .state .free)) (renumbered (k .number) (b .state .free) (suc (made t))) u stays (invariant-new-tuple b g (k .inv) r n tag lr fr fit tg) noted (λ started x. tracked-made b g (k .inv) r n tag lr fr fit tg t (k .number) started x)
+      good-done m h b t l k (Getm r n tag) (new-tuple r n tag b) (made-ghosts g (b .free)) (renumbered (k .number) (b .free) (suc (made t))) u stays (invariant-new-tuple b g (k .inv) r n tag lr fr fit tg) noted (λ started x. tracked-made b g (k .inv) r n tag lr fr fit tg t (k .number) started x)
     where
       fields : New b (new-tuple r n tag b) r n tag
       fields = new-box b (k .inv .shape) r n tag lr (free-bounds b g (k .inv) fr .1) fit
@@ -240,17 +241,17 @@ module _ (m h : ℕ) (b : Box) (t : History) (l : Log) (k : Good m h b t l) (u :
       stays : Stays b (new-tuple r n tag b)
       stays = record { m-same = fields .m-same; h-same = fields .h-same; held-same = new-held r n tag b; phase-same = fields .phase-same }
 
-      what : Made b (g .plan) (new-tuple r n tag b) (made-plan (g .plan) (b .state .free)) r n tag
+      what : Made b (g .plan) (new-tuple r n tag b) (made-plan (g .plan) (b .free)) r n tag
       what = new-tuple-made b g (k .inv) r n tag lr fr fit tg
 
-      noted : Related (new-tuple r n tag b) (made-plan (g .plan) (b .state .free)) (make r n tag t) (l .given ++ handle-of (register r (new-tuple r n tag b)) ∷ []) (renumbered (k .number) (b .state .free) (suc (made t)))
+      noted : Related (new-tuple r n tag b) (made-plan (g .plan) (b .free)) (make r n tag t) (l .given ++ handle-of (register r (new-tuple r n tag b)) ∷ []) (renumbered (k .number) (b .free) (suc (made t)))
       noted =
-          subst (λ (x : ℕ). Related (new-tuple r n tag b) (made-plan (g .plan) (b .state .free)) (make r n tag t) (l .given ++ x ∷ []) (renumbered (k .number) (b .state .free) (suc (made t)))) (sym (what .made-handle))
-          (related-made b (g .plan) (new-tuple r n tag b) (made-plan (g .plan) (b .state .free)) r n tag t (l .given) (k .number) what (k .inv .contents) (k .related) (k .eight) lr)
+          subst (λ (x : ℕ). Related (new-tuple r n tag b) (made-plan (g .plan) (b .free)) (make r n tag t) (l .given ++ x ∷ []) (renumbered (k .number) (b .free) (suc (made t)))) (sym (what .made-handle))
+          (related-made b (g .plan) (new-tuple r n tag b) (made-plan (g .plan) (b .free)) r n tag t (l .given) (k .number) what (k .inv .contents) (k .related) (k .eight) lr)
 
   -- a word is stored: what the box is after it is given
   pub good-store : (r s n : ℕ) → r < register-count → s < register-count → There s n b → (c : Box) (sc : Scans) → Inv c (with-scans sc g)
-      → Stored b (g .plan) c (g .plan) (named s b) (number-in s n b) (register r b) → Stays b c → c .state .tuple ≡ b .state .tuple
+      → Stored b (g .plan) c (g .plan) (named s b) (number-in s n b) (register r b) → Stays b c → c .collector .tuple ≡ b .collector .tuple
       → ((x : ℕ) → marked x c ≡ true → (marked x b ≡ true) ⊎ ((names-tuple (register r b) ≡ true) × (x ≡ handle-of (register r b))))
       → Good m h c (do-request (Store r s n) t) (log-done (Store r s n) c l)
   unfolding given-by
@@ -294,7 +295,7 @@ module _ (m h : ℕ) (b : Box) (t : History) (l : Log) (k : Good m h b t l) (u :
       w = write-keeps (place-of s n b) (register r b) (set-deep (named s b) true b)
 
   pub good-store-shaded : (r s n : ℕ) → r < register-count → s < register-count → There s n b → names-tuple (register r b) ≡ true
-      → 1 ≤ b .state .phase → b .state .phase ≤ 3
+      → 1 ≤ b .collector .phase → b .collector .phase ≤ 3
       → Good m h (write (place-of s n b) (register r b) (set-deep (named s b) true (shade (named r b) b))) (do-request (Store r s n) t) (log-done (Store r s n) (write (place-of s n b) (register r b) (set-deep (named s b) true (shade (named r b) b))) l)
   good-store-shaded r s n lr ls th d p q =
       good-store r s n lr ls th (write (place-of s n b) (register r b) (set-deep (named s b) true (shade (named r b) b))) (shade-scans (named r b) b (g .scans)) (stores-shaded b g (k .inv) (named s b) (number-in s n b) (stored-kept s n ls th) (th .inside) (register r b) target (record {

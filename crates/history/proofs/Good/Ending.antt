@@ -9,10 +9,11 @@ use mathlib.Core.Option.{Option, none, some}
 use mathlib.Core.Path.{_≡_, refl, sym, _∙_, ap, subst}
 use native.Mathlib.Decide.{ℕ-discrete}
 use native.Mathlib.Omega.{arith}
-use Rattle.memory.specs.Limits.{register-count, half-word}
-use Rattle.memory.specs.Box.{Box, handle-of, register}
-use Rattle.memory.specs.Request.{new-tuple}
-use Rattle.memory.specs.Collector.{at-rest, unheld, granted}
+use Rattle.rules.specs.Limits.{register-count, half-word}
+use Rattle.rules.specs.Parts.{Box}
+use Rattle.rules.specs.Box.{handle-of, register}
+use Rattle.rules.specs.Request.{new-tuple}
+use Rattle.rules.specs.Collector.{at-rest, unheld, granted}
 use Rattle.history.specs.Machine.{Asked, History, made, make, with-hold, grant}
 use Rattle.history.specs.Calls.{Cycle, Pending, Answered, Log, cycle-step, wait-step, end-log-cycle, answer-hold, given-held, log-ended, log-dropped, log-granted}
 use Rattle.history.specs.Demand3.{Every, Swept, JustlyAnswered}
@@ -34,18 +35,18 @@ use Rattle.history.proofs.Invariant.Stepping.{SameHold}
 
 -- ---- the end of the cycle that is under way
 
-module _ (m h : ℕ) (b : Box) (t : History) (l : Log) (k : Good m h b t l) (c : Box) (n : Next b (k .ghosts) (at-rest c)) (d : b .state .phase ≢ 0) (s : SameHold b c) (a : c .state .begun ≡ b .state .begun)
+module _ (m h : ℕ) (b : Box) (t : History) (l : Log) (k : Good m h b t l) (c : Box) (n : Next b (k .ghosts) (at-rest c)) (d : b .collector .phase ≢ 0) (s : SameHold b c) (a : c .hold .begun ≡ b .hold .begun)
     (sp : (t : History) (given : List ℕ) (number : ℕ → ℕ) (started : History) → Related b (k .ghosts .plan) t given number → Tracked b (k .ghosts .plan) t number started → (x : ℕ) → Kept (at-rest c) (n .ghosts .plan) x → Spared started (number x)) where
   -- what is known of the box at rest
-  resting : at-rest c .state .phase ≡ 0
+  resting : at-rest c .collector .phase ≡ 0
   unfolding at-rest
   resting = refl
 
-  m-same : at-rest c .state .m ≡ m
+  m-same : at-rest c .m ≡ m
   unfolding at-rest
   m-same = s .m-same ∙ k .m-is
 
-  h-same : at-rest c .state .h ≡ h
+  h-same : at-rest c .h ≡ h
   unfolding at-rest
   h-same = s .h-same ∙ k .h-is
 
@@ -96,7 +97,7 @@ module _ (m h : ℕ) (b : Box) (t : History) (l : Log) (k : Good m h b t l) (c :
 
   -- what was unreachable is gone, in a box at rest whose kept tuples are spared
   swept-now : (e : Box) (g : Ghosts) (u : History) (given : List ℕ) (number : ℕ → ℕ) → Inv e g → Related e (g .plan) u given number
-      → e .state .phase ≡ 0 → made started ≤ made u → ((x : ℕ) → Kept e (g .plan) x → Spared started (number x))
+      → e .collector .phase ≡ 0 → made started ≤ made u → ((x : ℕ) → Kept e (g .plan) x → Spared started (number x))
       → Swept (record { cycle = full; box-then = e; given-then = given })
   swept-now e g u given number v r p f q = record { dead-are-gone = λ i y z. gone-at-rest e g u given number started v r p f q i (y .0) (y .1) z }
 
@@ -121,7 +122,7 @@ module _ (m h : ℕ) (b : Box) (t : History) (l : Log) (k : Good m h b t l) (c :
 
   -- ---- nothing held: 31
 
-  pub good-free : c .state .held ≡ false → Good m h (at-rest c) t (log-ended b (at-rest c) t l)
+  pub good-free : c .hold .held ≡ false → Good m h (at-rest c) t (log-ended b (at-rest c) t l)
   unfolding at-rest wait-step
   good-free p = rested (go (k .waiting))
     where
@@ -138,7 +139,7 @@ module _ (m h : ℕ) (b : Box) (t : History) (l : Log) (k : Good m h b t l) (c :
     pending-is : l .pending ≡ some pending
     what : Held b (k .ghosts) t asked pending
 
-  holding : c .state .held ≡ true → Holding
+  holding : c .hold .held ≡ true → Holding
   holding p = go (k .waiting)
     where
       go : Waiting b (k .ghosts) t (l .pending) → Holding
@@ -160,7 +161,7 @@ module _ (m h : ℕ) (b : Box) (t : History) (l : Log) (k : Good m h b t l) (c :
 
   -- ---- it stays: 33
 
-  pub good-held : c .state .held ≡ true → c .state .begun ≡ false → Good m h (at-rest c) t (log-ended b (at-rest c) t l)
+  pub good-held : c .hold .held ≡ true → c .hold .begun ≡ false → Good m h (at-rest c) t (log-ended b (at-rest c) t l)
   unfolding at-rest
   good-held p q = rested (one-held p (y .asked) (y .asked-is) (waited y) (now-waited y) stays)
     where
@@ -169,10 +170,10 @@ module _ (m h : ℕ) (b : Box) (t : History) (l : Log) (k : Good m h b t l) (c :
 
       stays : Held (at-rest c) (n .ghosts) t (y .asked) (waited y)
       stays =
-          let u : y .pending .steps + left b (k .ghosts) + (8 * b .state .m + 2) ≤ 16 * b .state .m + 4 = y .what .in-time-twice (sym a ∙ q) d in
+          let u : y .pending .steps + left b (k .ghosts) + (8 * b .m + 2) ≤ 16 * b .m + 4 = y .what .in-time-twice (sym a ∙ q) d in
           let v : 1 ≤ left b (k .ghosts) = left-positive b (k .ghosts) (k .inv) in
-          let w : left (at-rest c) (n .ghosts) ≤ 8 * at-rest c .state .m + 2 = left-bound-m (at-rest c) (n .ghosts) (n .inv) in
-          let e : c .state .m ≡ b .state .m = s .m-same in
+          let w : left (at-rest c) (n .ghosts) ≤ 8 * at-rest c .m + 2 = left-bound-m (at-rest c) (n .ghosts) (n .inv) in
+          let e : c .m ≡ b .m = s .m-same in
           record {
             register-is = y .what .register-is ∙ sym (s .register-same);
             size-is = y .what .size-is ∙ sym (s .size-same);
@@ -187,18 +188,18 @@ module _ (m h : ℕ) (b : Box) (t : History) (l : Log) (k : Good m h b t l) (c :
 
   in-time-now : (y : Holding) → suc (y .pending .steps) ≤ 16 * m + 4
   in-time-now y =
-      let u : y .pending .steps + left b (k .ghosts) ≤ 16 * b .state .m + 4 = y .what .in-time in
+      let u : y .pending .steps + left b (k .ghosts) ≤ 16 * b .m + 4 = y .what .in-time in
       let v : 1 ≤ left b (k .ghosts) = left-positive b (k .ghosts) (k .inv) in
-      let e : b .state .m ≡ m = k .m-is in
+      let e : b .m ≡ m = k .m-is in
       omega arith
 
-  size-asked : (y : Holding) → waited y .asked .size ≡ c .state .«hold_size»
+  size-asked : (y : Holding) → waited y .asked .size ≡ c .hold .size
   size-asked y = ap (λ (q : Asked). q .size) (y .what .asked-is) ∙ y .what .size-is ∙ sym (s .size-same)
 
   -- ---- it is dropped: 8
 
-  pub good-dropped : c .state .held ≡ true → c .state .begun ≡ true
-      → (c .state .free ≡ 0) ⊎ (c .state .m < c .state .top + c .state .«hold_size» + 1)
+  pub good-dropped : c .hold .held ≡ true → c .hold .begun ≡ true
+      → (c .free ≡ 0) ⊎ (c .m < c .top + c .hold .size + 1)
       → Good m h (unheld (at-rest c)) (with-hold none t) (log-dropped b (unheld (at-rest c)) t l)
   unfolding log-dropped at-rest unheld
   good-dropped p q o =
@@ -228,8 +229,8 @@ module _ (m h : ℕ) (b : Box) (t : History) (l : Log) (k : Good m h b t l) (c :
       justly : JustlyAnswered m h (record { hold = waited y; answer = 8 })
       justly =
           subst (λ (x : ℕ). JustlyAnswered x h (record { hold = waited y; answer = 8 })) m-same
-          (subst (λ (x : ℕ). JustlyAnswered (at-rest c .state .m) x (record { hold = waited y; answer = 8 })) h-same
-          (dropped-justly (at-rest c) (n .ghosts) t (l .given) (k .number) (n .inv) related resting (λ x z. subst (λ (u : History). Spared u (k .number x)) same (kept-spared x z)) (c .state .«hold_size») o (waited y) (y .what .history-is) (size-asked y)))
+          (subst (λ (x : ℕ). JustlyAnswered (at-rest c .m) x (record { hold = waited y; answer = 8 })) h-same
+          (dropped-justly (at-rest c) (n .ghosts) t (l .given) (k .number) (n .inv) related resting (λ x z. subst (λ (u : History). Spared u (k .number x)) same (kept-spared x z)) (c .hold .size) o (waited y) (y .what .history-is) (size-asked y)))
 
       swept : Swept (record { cycle = full; box-then = unheld (at-rest c); given-then = l .given })
       swept = swept-now (unheld (at-rest c)) (n .ghosts) (with-hold none t) (l .given) (k .number) (invariant-unheld (at-rest c) (n .ghosts) (n .inv)) after refl (last .known .tracked .not-fewer) (λ x z. kept-spared x (unheld-quiet (at-rest c) (n .ghosts .plan) .kept-to x z))
@@ -249,63 +250,63 @@ module _ (m h : ℕ) (b : Box) (t : History) (l : Log) (k : Good m h b t l) (c :
 
   -- what was asked, by the hold of the box
   abbrev wanted : Asked
-  wanted = record { register = c .state .«hold_register»; size = c .state .«hold_size»; tag = c .state .«hold_tag» }
+  wanted = record { register = c .hold .register; size = c .hold .size; tag = c .hold .tag }
 
   asked-wanted : (y : Holding) → y .asked ≡ wanted
   asked-wanted y = λ i. record { register = (y .what .register-is ∙ sym (s .register-same)) i; size = (y .what .size-is ∙ sym (s .size-same)) i; tag = (y .what .tag-is ∙ sym (s .tag-same)) i }
 
-  module _ (p : c .state .held ≡ true) (fr : c .state .free ≢ 0) (fit : c .state .top + c .state .«hold_size» + 1 ≤ c .state .m) where
+  module _ (p : c .hold .held ≡ true) (fr : c .free ≢ 0) (fit : c .top + c .hold .size + 1 ≤ c .m) where
     y : Holding
     y = holding p
 
-    good-register : (c .state .«hold_register» < register-count) × (c .state .«hold_tag» < half-word)
+    good-register : (c .hold .register < register-count) × (c .hold .tag < half-word)
     unfolding at-rest
     good-register = n .inv .shape .held-register p
 
     abbrev made-box : Box
-    made-box = new-tuple (c .state .«hold_register») (c .state .«hold_size») (c .state .«hold_tag») (at-rest c)
+    made-box = new-tuple (c .hold .register) (c .hold .size) (c .hold .tag) (at-rest c)
 
     abbrev made-g : Ghosts
-    made-g = made-ghosts (n .ghosts) (c .state .free)
+    made-g = made-ghosts (n .ghosts) (c .free)
 
     abbrev numbers : ℕ → ℕ
-    numbers = renumbered (k .number) (c .state .free) (suc (made t))
+    numbers = renumbered (k .number) (c .free) (suc (made t))
 
-    new : Made (at-rest c) (n .ghosts .plan) made-box (made-g .plan) (c .state .«hold_register») (c .state .«hold_size») (c .state .«hold_tag»)
+    new : Made (at-rest c) (n .ghosts .plan) made-box (made-g .plan) (c .hold .register) (c .hold .size) (c .hold .tag)
     unfolding at-rest
-    new = new-tuple-made (at-rest c) (n .ghosts) (n .inv) (c .state .«hold_register») (c .state .«hold_size») (c .state .«hold_tag») (good-register .0) fr fit (good-register .1)
+    new = new-tuple-made (at-rest c) (n .ghosts) (n .inv) (c .hold .register) (c .hold .size) (c .hold .tag) (good-register .0) fr fit (good-register .1)
 
     made-inv : Inv made-box made-g
     unfolding at-rest
-    made-inv = invariant-new-tuple (at-rest c) (n .ghosts) (n .inv) (c .state .«hold_register») (c .state .«hold_size») (c .state .«hold_tag») (good-register .0) fr fit (good-register .1)
+    made-inv = invariant-new-tuple (at-rest c) (n .ghosts) (n .inv) (c .hold .register) (c .hold .size) (c .hold .tag) (good-register .0) fr fit (good-register .1)
 
-    fields : New (at-rest c) made-box (c .state .«hold_register») (c .state .«hold_size») (c .state .«hold_tag»)
+    fields : New (at-rest c) made-box (c .hold .register) (c .hold .size) (c .hold .tag)
     unfolding at-rest
-    fields = new-box (at-rest c) (n .inv .shape) (c .state .«hold_register») (c .state .«hold_size») (c .state .«hold_tag») (good-register .0) (free-bounds (at-rest c) (n .ghosts) (n .inv) fr .1) fit
+    fields = new-box (at-rest c) (n .inv .shape) (c .hold .register) (c .hold .size) (c .hold .tag) (good-register .0) (free-bounds (at-rest c) (n .ghosts) (n .inv) fr .1) fit
 
-    after : Related (unheld made-box) (made-g .plan) (grant (some wanted) t) (l .given ++ c .state .free ∷ []) numbers
+    after : Related (unheld made-box) (made-g .plan) (grant (some wanted) t) (l .given ++ c .free ∷ []) numbers
     unfolding at-rest
     after = related-granted (at-rest c) (n .ghosts .plan) made-box (made-g .plan) wanted t (l .given) (k .number) new (n .inv .contents) related (k .eight) (good-register .0)
 
     -- what is kept now was kept, or is the new tuple
     still-spared : (x : ℕ) → Kept (unheld made-box) (made-g .plan) x → Spared started (numbers x)
     unfolding at-rest
-    still-spared x z = go (ℕ-discrete x (c .state .free)) (new .kept-to x (unheld-quiet made-box (made-g .plan) .kept-to x z))
+    still-spared x z = go (ℕ-discrete x (c .free)) (new .kept-to x (unheld-quiet made-box (made-g .plan) .kept-to x z))
       where
-        go : Dec (x ≡ c .state .free) → Kept (at-rest c) (n .ghosts .plan) x ⊎ (x ≡ c .state .free) → Spared started (numbers x)
-        go (yes e) w = let u : made started ≤ made t = last .known .tracked .not-fewer in subst (λ (i : ℕ). Spared started i) (sym (renumbered-same (k .number) (c .state .free) (suc (made t)) x e)) (made-since (omega arith))
-        go (no e) (inl w) = subst (λ (i : ℕ). Spared started i) (sym (renumbered-other (k .number) (c .state .free) (suc (made t)) x e)) (kept-spared x w)
+        go : Dec (x ≡ c .free) → Kept (at-rest c) (n .ghosts .plan) x ⊎ (x ≡ c .free) → Spared started (numbers x)
+        go (yes e) w = let u : made started ≤ made t = last .known .tracked .not-fewer in subst (λ (i : ℕ). Spared started i) (sym (renumbered-same (k .number) (c .free) (suc (made t)) x e)) (made-since (omega arith))
+        go (no e) (inl w) = subst (λ (i : ℕ). Spared started i) (sym (renumbered-other (k .number) (c .free) (suc (made t)) x e)) (kept-spared x w)
         go (no e) (inr w) = absurd (e w)
 
     justly : JustlyAnswered m h (record { hold = waited y; answer = 32 })
     unfolding at-rest
     justly =
         subst (λ (x : ℕ). JustlyAnswered x h (record { hold = waited y; answer = 32 })) m-same
-        (subst (λ (x : ℕ). JustlyAnswered (at-rest c .state .m) x (record { hold = waited y; answer = 32 })) h-same
-        (granted-justly (at-rest c) (n .ghosts) t (l .given) (k .number) (n .inv) related resting (c .state .«hold_size») fr fit (waited y) (y .what .history-is) (size-asked y)))
+        (subst (λ (x : ℕ). JustlyAnswered (at-rest c .m) x (record { hold = waited y; answer = 32 })) h-same
+        (granted-justly (at-rest c) (n .ghosts) t (l .given) (k .number) (n .inv) related resting (c .hold .size) fr fit (waited y) (y .what .history-is) (size-asked y)))
 
     -- the handle that the log notes
-    noted : given-held (l .pending) (unheld made-box) (l .given) ≡ l .given ++ c .state .free ∷ []
+    noted : given-held (l .pending) (unheld made-box) (l .given) ≡ l .given ++ c .free ∷ []
     unfolding given-held unheld at-rest
     noted =
         ap (λ (o : Option Pending). given-held o (unheld made-box) (l .given)) (y .pending-is)
@@ -318,7 +319,7 @@ module _ (m h : ℕ) (b : Box) (t : History) (l : Log) (k : Good m h b t l) (c :
     after-noted : Related (unheld made-box) (made-g .plan) (grant (some wanted) t) given-now numbers
     after-noted = subst (λ (x : List ℕ). Related (unheld made-box) (made-g .plan) (grant (some wanted) t) x numbers) (sym noted) after
 
-    rest-phase : unheld made-box .state .phase ≡ 0
+    rest-phase : unheld made-box .collector .phase ≡ 0
     unfolding unheld
     rest-phase = fields .phase-same ∙ resting
 

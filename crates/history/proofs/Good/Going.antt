@@ -7,7 +7,7 @@ use mathlib.Core.Option.{none}
 use mathlib.Core.Path.{_≡_, refl, sym, _∙_, ap}
 use native.Mathlib.Omega.{arith}
 use borrow.Author.Tests.{eq-eqb}
-use Rattle.memory.specs.Box.{Box}
+use Rattle.rules.specs.Parts.{Box}
 use Rattle.history.specs.Machine.{Asked, History}
 use Rattle.history.specs.Calls.{Pending, Log, cycle-step, wait-step, log-going}
 use Rattle.history.proofs.Invariant.Frame.{Next}
@@ -25,13 +25,13 @@ module _ (m h : ℕ) (b : Box) (t : History) (l : Log) (k : Good m h b t l) (c :
     where
       first : l .cycle ≡ none → Cycling c (n .ghosts) t (k .number) (cycle-step b t (l .cycle))
       first o =
-          let u : left b (k .ghosts) ≤ 8 * b .state .top + 2 = left-bound b (k .ghosts) (k .inv) in
+          let u : left b (k .ghosts) ≤ 8 * b .top + 2 = left-bound b (k .ghosts) (k .inv) in
           under-way (omega arith) (record {
             started = t;
-            first-top = b .state .top;
+            first-top = b .top;
             steps = 1;
             quiet = true;
-          }) (ap (cycle-step b t) o ∙ simp (eq-eqb (b .state .phase) 0 e))
+          }) (ap (cycle-step b t) o ∙ simp (eq-eqb (b .collector .phase) 0 e))
           (record { tracked = x t (k .number); bounded = λ q. omega arith; begun-then = λ p q. refl })
 
       go : Cycling b (k .ghosts) t (k .number) (l .cycle) → Cycling c (n .ghosts) t (k .number) (cycle-step b t (l .cycle))
@@ -54,13 +54,13 @@ module _ (m h : ℕ) (b : Box) (t : History) (l : Log) (k : Good m h b t l) (c :
   unfolding wait-step
   waiting-on z = go (k .waiting)
     where
-      twice : (q : Asked) (w : Pending) → b .state .held ≡ true → Held b (k .ghosts) t q w → Track b (k .ghosts) c (n .ghosts .plan)
-          → c .state .begun ≡ false → c .state .phase ≢ 0
-          → suc (w .steps) + left c (n .ghosts) + (8 * c .state .m + 2) ≤ 16 * c .state .m + 4
+      twice : (q : Asked) (w : Pending) → b .hold .held ≡ true → Held b (k .ghosts) t q w → Track b (k .ghosts) c (n .ghosts .plan)
+          → c .hold .begun ≡ false → c .collector .phase ≢ 0
+          → suc (w .steps) + left c (n .ghosts) + (8 * c .m + 2) ≤ 16 * c .m + 4
       twice q w p y (starts e f a x) d r = absurd (true≢false (sym (a p) ∙ d))
       twice q w p y (tracks e f a x) d r =
-          let u : w .steps + left b (k .ghosts) + (8 * b .state .m + 2) ≤ 16 * b .state .m + 4 = y .in-time-twice (sym a ∙ d) e in
-          let v : c .state .m ≡ b .state .m = s .m-same in
+          let u : w .steps + left b (k .ghosts) + (8 * b .m + 2) ≤ 16 * b .m + 4 = y .in-time-twice (sym a ∙ d) e in
+          let v : c .m ≡ b .m = s .m-same in
           omega arith
 
       go : Waiting b (k .ghosts) t (l .pending) → Waiting c (n .ghosts) t (wait-step (l .pending))
@@ -73,7 +73,7 @@ module _ (m h : ℕ) (b : Box) (t : History) (l : Log) (k : Good m h b t l) (c :
             tag-is = y .tag-is ∙ sym (s .tag-same);
             asked-is = y .asked-is;
             history-is = y .history-is;
-            in-time = let u : w .steps + left b (k .ghosts) ≤ 16 * b .state .m + 4 = y .in-time in let v : c .state .m ≡ b .state .m = s .m-same in omega arith;
+            in-time = let u : w .steps + left b (k .ghosts) ≤ 16 * b .m + 4 = y .in-time in let v : c .m ≡ b .m = s .m-same in omega arith;
             in-time-twice = twice q w p y z;
           })
 

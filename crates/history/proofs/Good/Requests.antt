@@ -6,11 +6,12 @@ use mathlib.Core.Logic.{_≢_}
 use mathlib.Core.Path.{_≡_, sym, _∙_, subst}
 use native.Mathlib.Omega.{arith}
 use borrow.Author.Tests.{ne-eqb}
-use Rattle.memory.specs.declared.kinds.Request.{Request}
-use Rattle.memory.specs.declared.kinds.Request.the-variants.{Setd, Nil, Move, Advance, Load, Size, Tag, Same}
-use Rattle.memory.specs.Box.{Box, Reply, reply, data-word, pointer, offset-of, tag-of, register, size-of}
-use Rattle.memory.specs.Place.{place, read}
-use Rattle.memory.specs.Request.{same-word, request}
+use Rattle.rules.specs.declared.kinds.Request.{Request}
+use Rattle.rules.specs.declared.kinds.Request.the-variants.{Setd, Nil, Move, Advance, Load, Size, Tag, Same}
+use Rattle.rules.specs.Parts.{Box}
+use Rattle.rules.specs.Box.{Reply, reply, data-word, pointer, offset-of, tag-of, register, size-of}
+use Rattle.rules.specs.Place.{place, read}
+use Rattle.rules.specs.Request.{same-word, request}
 use Rattle.history.specs.Machine.{hold-request, History, feed, ask, do-request}
 use Rattle.history.specs.Calls.{log-done, log-held, Log, given-by, log-request, RequestInWidth}
 use Rattle.history.proofs.Invariant.Statement.{Ghosts}

@@ -8,8 +8,8 @@ use mathlib.Core.Logic.{_≢_}
 use mathlib.Core.Option.{Option, none, some}
 use mathlib.Core.Path.{_≡_}
 use lib.ListN.{length}
-use Rattle.memory.specs.Limits.{register-count}
-use Rattle.memory.specs.Box.{Box}
+use Rattle.rules.specs.Limits.{register-count}
+use Rattle.rules.specs.Parts.{Box}
 use Rattle.history.specs.Machine.{Asked, History}
 use Rattle.history.specs.Calls.{Cycle, EndedCycle, Pending, Answered, Log}
 use Rattle.history.specs.Demand3.{Every, Swept, JustlyAnswered}
@@ -24,27 +24,27 @@ pub record UnderWay (b : Box) (g : Ghosts) (t : History) (number : ℕ → ℕ) 
   pub tracked : Tracked b (g .plan) t number (c .started)
   pub bounded : c .quiet ≡ true → c .steps + left b g ≤ 8 * c .first-top + 2
   -- a cycle that began under the hold started with the history machine as it is
-  pub begun-then : b .state .held ≡ true → b .state .begun ≡ true → c .started ≡ t
+  pub begun-then : b .hold .held ≡ true → b .hold .begun ≡ true → c .started ≡ t
 
 pub data Cycling (b : Box) (g : Ghosts) (t : History) (number : ℕ → ℕ) (o : Option Cycle) : Type 0 where
-  between : b .state .phase ≡ 0 → o ≡ none → Cycling b g t number o
-  under-way : b .state .phase ≢ 0 → (c : Cycle) → o ≡ some c → UnderWay b g t number c → Cycling b g t number o
+  between : b .collector .phase ≡ 0 → o ≡ none → Cycling b g t number o
+  under-way : b .collector .phase ≢ 0 → (c : Cycle) → o ≡ some c → UnderWay b g t number c → Cycling b g t number o
 
 -- ---- the hold
 
 pub record Held (b : Box) (g : Ghosts) (t : History) (q : Asked) (w : Pending) : Type 0 where
-  pub register-is : q .register ≡ b .state .«hold_register»
-  pub size-is : q .size ≡ b .state .«hold_size»
-  pub tag-is : q .tag ≡ b .state .«hold_tag»
+  pub register-is : q .register ≡ b .hold .register
+  pub size-is : q .size ≡ b .hold .size
+  pub tag-is : q .tag ≡ b .hold .tag
   pub asked-is : w .asked ≡ q
   pub history-is : w .history-then ≡ t
   -- within 16 M + 4 steps in all: while no cycle has begun under it and one is under way, another cycle follows this one
-  pub in-time : w .steps + left b g ≤ 16 * b .state .m + 4
-  pub in-time-twice : b .state .begun ≡ false → b .state .phase ≢ 0 → w .steps + left b g + (8 * b .state .m + 2) ≤ 16 * b .state .m + 4
+  pub in-time : w .steps + left b g ≤ 16 * b .m + 4
+  pub in-time-twice : b .hold .begun ≡ false → b .collector .phase ≢ 0 → w .steps + left b g + (8 * b .m + 2) ≤ 16 * b .m + 4
 
 pub data Waiting (b : Box) (g : Ghosts) (t : History) (o : Option Pending) : Type 0 where
-  nothing-held : b .state .held ≡ false → t .hold ≡ none → o ≡ none → Waiting b g t o
-  one-held : b .state .held ≡ true → (q : Asked) → t .hold ≡ some q → (w : Pending) → o ≡ some w → Held b g t q w → Waiting b g t o
+  nothing-held : b .hold .held ≡ false → t .hold ≡ none → o ≡ none → Waiting b g t o
+  one-held : b .hold .held ≡ true → (q : Asked) → t .hold ≡ some q → (w : Pending) → o ≡ some w → Held b g t q w → Waiting b g t o
 
 -- ---- all of it
 
@@ -56,8 +56,8 @@ pub record Past (m h : ℕ) (ended : List EndedCycle) (answered : List Answered)
   pub bounded : Every (λ (e : EndedCycle). e .cycle .quiet ≡ true → e .cycle .steps ≤ 8 * e .cycle .first-top + 2) ended
 
 pub record Good (m h : ℕ) (b : Box) (t : History) (l : Log) : Type 0 where
-  pub m-is : b .state .m ≡ m
-  pub h-is : b .state .h ≡ h
+  pub m-is : b .m ≡ m
+  pub h-is : b .h ≡ h
   pub ghosts : Ghosts
   pub inv : Inv b ghosts
   pub number : ℕ → ℕ

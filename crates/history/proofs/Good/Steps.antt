@@ -6,9 +6,10 @@ use mathlib.Core.Logic.{_≢_, _⊎_, inl, inr}
 use mathlib.Core.Option.{Option, none}
 use mathlib.Core.Path.{_≡_, refl, sym, _∙_, ap, subst}
 use native.Mathlib.Omega.{arith}
-use Rattle.memory.specs.Box.{Box, Reply}
-use Rattle.memory.specs.Collector.{at-rest, end-cycle, step}
-use Rattle.memory.specs.Run.{Ran, ran, counted, Course, goes-on as going-on, stops, refuses, course, run-on, run}
+use Rattle.rules.specs.Parts.{Box}
+use Rattle.rules.specs.Box.{Reply}
+use Rattle.rules.specs.Collector.{at-rest, end-cycle, step}
+use Rattle.rules.specs.Run.{Ran, ran, counted, Course, goes-on as going-on, stops, refuses, course, run-on, run}
 use Rattle.history.specs.Machine.{Asked, History, grant, with-hold, feed, run-for}
 use Rattle.history.specs.Calls.{Log, log-step, log-steps}
 use Rattle.history.proofs.Invariant.Frame.{Next}
@@ -31,7 +32,7 @@ pub data After (m h : ℕ) (b : Box) (t : History) (l : Log) (r : Reply) : Type 
 
 module _ (m h : ℕ) (b : Box) (t : History) (l : Log) (k : Good m h b t l) where
   -- an end of the cycle, by what becomes of the hold
-  by-ending : (c : Box) (n : Next b (k .ghosts) (at-rest c)) → b .state .phase ≢ 0 → SameHold b c → c .state .begun ≡ b .state .begun
+  by-ending : (c : Box) (n : Next b (k .ghosts) (at-rest c)) → b .collector .phase ≢ 0 → SameHold b c → c .hold .begun ≡ b .hold .begun
       → EndsSpared b (k .ghosts) (at-rest c) (n .ghosts .plan) → CycleEnd b c (n .ghosts) → After m h b t l (end-cycle b c)
   unfolding log-step
   by-ending c n d s a sp (CycleEnd.ends-free p e) = subst (After m h b t l) (sym e) (free refl (none-held (k .waiting)) (good-free m h b t l k c n d s a sp p))

@@ -6,10 +6,11 @@ use mathlib.Core.Bool.{true, false}
 use mathlib.Core.Logic.{_≢_, _⊎_, inl, inr}
 use mathlib.Core.Path.{_≡_}
 use native.Mathlib.Omega.{arith}
-use Rattle.memory.specs.Limits.{register-count}
-use Rattle.memory.specs.Box.{Box, reply}
-use Rattle.memory.specs.Request.{new-tuple}
-use Rattle.memory.specs.Collector.{at-rest, unheld, granted, end-cycle}
+use Rattle.rules.specs.Limits.{register-count}
+use Rattle.rules.specs.Parts.{Box}
+use Rattle.rules.specs.Box.{reply}
+use Rattle.rules.specs.Request.{new-tuple}
+use Rattle.rules.specs.Collector.{at-rest, unheld, granted, end-cycle}
 use Rattle.history.proofs.Invariant.Statement.{Ghosts, Inv}
 use Rattle.history.proofs.View.Tests.{Entry, NoRoom, Room}
 use Rattle.history.proofs.View.End.{Ending, ending}
@@ -18,27 +19,27 @@ use Rattle.history.proofs.Asking.Registers.{invariant-unheld}
 use Rattle.history.proofs.Asking.NewTuple.{made-ghosts, invariant-new-tuple}
 
 -- a held request that is granted: the new tuple is made as for any request, and the hold is dropped
-invariant-granted : (b : Box) (g : Ghosts) → Inv b g → b .state .held ≡ true → Room (b .state .«hold_size») b → Inv (granted b) (made-ghosts g (b .state .free))
+invariant-granted : (b : Box) (g : Ghosts) → Inv b g → b .hold .held ≡ true → Room (b .hold .size) b → Inv (granted b) (made-ghosts g (b .free))
 unfolding granted
 invariant-granted b g v e t =
     let f = v .shape .held-register e in
-    invariant-unheld (new-tuple (b .state .«hold_register») (b .state .«hold_size») (b .state .«hold_tag») b) (made-ghosts g (b .state .free))
-    (invariant-new-tuple b g v (b .state .«hold_register») (b .state .«hold_size») (b .state .«hold_tag») (f .0) (t .0) (t .1) (f .1))
+    invariant-unheld (new-tuple (b .hold .register) (b .hold .size) (b .hold .tag) b) (made-ghosts g (b .free))
+    (invariant-new-tuple b g v (b .hold .register) (b .hold .size) (b .hold .tag) (f .0) (t .0) (t .1) (f .1))
 
 -- found is the box before the step, c the box as its rule leaves it, and g the ghosts of c at rest
 pub data CycleEnd (found c : Box) (g : Ghosts) : Type 0 where
-  ends-free : c .state .held ≡ false → end-cycle found c ≡ reply (at-rest c) 31 → CycleEnd found c g
-  ends-held : c .state .held ≡ true → NoRoom (c .state .«hold_size») c → c .state .begun ≡ false → end-cycle found c ≡ reply (at-rest c) 33 → CycleEnd found c g
-  ends-dropped : c .state .held ≡ true → NoRoom (c .state .«hold_size») c → c .state .begun ≡ true → end-cycle found c ≡ reply (unheld (at-rest c)) 8
+  ends-free : c .hold .held ≡ false → end-cycle found c ≡ reply (at-rest c) 31 → CycleEnd found c g
+  ends-held : c .hold .held ≡ true → NoRoom (c .hold .size) c → c .hold .begun ≡ false → end-cycle found c ≡ reply (at-rest c) 33 → CycleEnd found c g
+  ends-dropped : c .hold .held ≡ true → NoRoom (c .hold .size) c → c .hold .begun ≡ true → end-cycle found c ≡ reply (unheld (at-rest c)) 8
       → Inv (unheld (at-rest c)) g → CycleEnd found c g
-  ends-granted : c .state .held ≡ true → c .state .free ≢ 0 → c .state .top + c .state .«hold_size» + 1 ≤ c .state .m → end-cycle found c ≡ reply (granted (at-rest c)) 32
-      → Inv (granted (at-rest c)) (made-ghosts g (c .state .free)) → CycleEnd found c g
+  ends-granted : c .hold .held ≡ true → c .free ≢ 0 → c .top + c .hold .size + 1 ≤ c .m → end-cycle found c ≡ reply (granted (at-rest c)) 32
+      → Inv (granted (at-rest c)) (made-ghosts g (c .free)) → CycleEnd found c g
 
 pub cycle-end : (found c : Box) (g : Ghosts) → Inv (at-rest c) g → CycleEnd found c g
 unfolding at-rest
 cycle-end found c g v = go (ending found c)
   where
-    lost : c .state .held ≡ true → c .state .free ≢ 0 → (register-count ≤ c .state .«hold_register») ⊎ (¬ Entry (c .state .free) c) → ⊥
+    lost : c .hold .held ≡ true → c .free ≢ 0 → (register-count ≤ c .hold .register) ⊎ (¬ Entry (c .free) c) → ⊥
     lost h f (inl l) = omega (arith, v .shape .held-register h .0)
     lost h f (inr e) = e (free-bounds (at-rest c) g v f)
 

@@ -8,8 +8,9 @@ use mathlib.Core.Logic.{inl, inr}
 use mathlib.Core.Path.{_≡_, refl, sym, ap, ap₂, _∙_, subst}
 use native.Mathlib.Omega.{arith}
 use lib.ListN.{getD}
-use Rattle.memory.specs.Box.{Box, word-at, address, size-of}
-use Rattle.memory.specs.Collector.{after}
+use Rattle.rules.specs.Parts.{Box}
+use Rattle.rules.specs.Box.{word-at, address, size-of}
+use Rattle.rules.specs.Collector.{after}
 use Rattle.history.specs.Agreement.{Member}
 use Rattle.history.proofs.Invariant.Statement.{Scans, Ghosts, Inv, Chain, Laid, listed, Stage, at-rest, finding, scanning, adding, sweeping, reading, clearing, writing, zeroing}
 use Rattle.history.proofs.Lists.Handles.{member-left, member-right}
@@ -51,13 +52,13 @@ chain-unique links head (x ∷ xs) (y ∷ ys) f g c d =
 
 -- ---- where the tuples ahead begin
 
-pub base-unswept : (b : Box) (g : Ghosts) → Inv b g → b .state .phase ≤ 3 → g .plan .base ≡ 0
+pub base-unswept : (b : Box) (g : Ghosts) → Inv b g → b .collector .phase ≤ 3 → g .plan .base ≡ 0
 base-unswept b g v l = unswept-of b g (v .stage) l .base-zero
 
-pub base-sweep : (b : Box) (g : Ghosts) → Inv b g → b .state .phase ≡ 4 → g .plan .base ≡ b .state .src
+pub base-sweep : (b : Box) (g : Ghosts) → Inv b g → b .collector .phase ≡ 4 → g .plan .base ≡ b .collector .src
 base-sweep b g v f = sweeps-of b g (v .stage) f .base-is
 
-pub base-behind : (b : Box) (g : Ghosts) → Inv b g → 5 ≤ b .state .phase → g .plan .base ≡ after b
+pub base-behind : (b : Box) (g : Ghosts) → Inv b g → 5 ≤ b .collector .phase → g .plan .base ≡ after b
 base-behind b g v l = by-stage (v .stage)
   where
     by-stage : Stage b g → g .plan .base ≡ after b
@@ -73,20 +74,20 @@ base-behind b g v l = by-stage (v .stage)
 
 -- ---- the tuples ahead
 
-pub ahead-fixed : (c : Box) (g : Ghosts) (a : ℕ) (hs : List ℕ) → Inv c g → g .plan .base ≡ a → Laid c a hs (c .state .top) → g .plan .ahead ≡ hs
+pub ahead-fixed : (c : Box) (g : Ghosts) (a : ℕ) (hs : List ℕ) → Inv c g → g .plan .base ≡ a → Laid c a hs (c .top) → g .plan .ahead ≡ hs
 ahead-fixed c g a hs v e l =
-    laid-unique c (g .plan .base) (g .plan .ahead) hs (c .state .top) (v .layout .ahead-laid) (laid-from c a (g .plan .base) hs (c .state .top) (sym e) l)
+    laid-unique c (g .plan .base) (g .plan .ahead) hs (c .top) (v .layout .ahead-laid) (laid-from c a (g .plan .base) hs (c .top) (sym e) l)
 
 -- c is b where tuples that lie from a to top are read
 pub record SameLaid (b c : Box) (a : ℕ) (hs : List ℕ) : Type 0 where
   pub addresses : (h : ℕ) → Member h hs → address h c ≡ address h b
   pub sizes : (h : ℕ) → size-of h c ≡ size-of h b
   pub words : (x : ℕ) → a ≤ x → word-at x c ≡ word-at x b
-  pub top : c .state .top ≡ b .state .top
+  pub top : c .top ≡ b .top
 
 -- the columns that it reads are the same
-pub same-columns : (b c : Box) (a : ℕ) (hs : List ℕ) → c .addresses ≡ b .addresses → c .sizes ≡ b .sizes → c .words ≡ b .words
-    → c .flags ≡ b .flags → c .state .top ≡ b .state .top
+pub same-columns : (b c : Box) (a : ℕ) (hs : List ℕ) → c .directory .addresses ≡ b .directory .addresses → c .directory .sizes ≡ b .directory .sizes → c .memory .words ≡ b .memory .words
+    → c .memory .flags ≡ b .memory .flags → c .top ≡ b .top
     → SameLaid b c a hs
 same-columns b c a hs ad sz wd fl t =
     record {
@@ -97,11 +98,11 @@ same-columns b c a hs ad sz wd fl t =
     }
 
 -- the tuples of b that lie from where those ahead begin in c are those ahead in c
-pub ahead-carried : (b c : Box) (g : Ghosts) (a : ℕ) (hs : List ℕ) → Laid b a hs (b .state .top) → SameLaid b c a hs → Inv c g → g .plan .base ≡ a → g .plan .ahead ≡ hs
+pub ahead-carried : (b c : Box) (g : Ghosts) (a : ℕ) (hs : List ℕ) → Laid b a hs (b .top) → SameLaid b c a hs → Inv c g → g .plan .base ≡ a → g .plan .ahead ≡ hs
 ahead-carried b c g a hs l s v e =
     ahead-fixed c g a hs v e
-    (laid-to c a hs (b .state .top) (c .state .top) (sym (s .top))
-    (laid-words b c a hs (b .state .top) (s .addresses) (λ h m. s .sizes h) (λ x u w. s .words x u) l))
+    (laid-to c a hs (b .top) (c .top) (sym (s .top))
+    (laid-words b c a hs (b .top) (s .addresses) (λ h m. s .sizes h) (λ x u w. s .words x u) l))
 
 -- ---- handles that can be looked up
 
@@ -119,8 +120,8 @@ currents-entry b g v h m = ahead-entry b (g .plan) (g .free) h (v .handles) (v .
 
 -- ---- the tuples that wait for a scan
 
-pub nexts-fixed : (c : Box) (g : Ghosts) (hs : List ℕ) → Inv c g → ((h : ℕ) → Member h hs → 1 ≤ h) → Chain (c .links) (c .state .next) hs → g .scans .nexts ≡ hs
-nexts-fixed c g hs v f d = chain-unique (c .links) (c .state .next) (g .scans .nexts) hs (nexts-entry c g v) f (v .marks .nexts-chain) d
+pub nexts-fixed : (c : Box) (g : Ghosts) (hs : List ℕ) → Inv c g → ((h : ℕ) → Member h hs → 1 ≤ h) → Chain (c .directory .links) (c .collector .next) hs → g .scans .nexts ≡ hs
+nexts-fixed c g hs v f d = chain-unique (c .directory .links) (c .collector .next) (g .scans .nexts) hs (nexts-entry c g v) f (v .marks .nexts-chain) d
 
-pub currents-fixed : (c : Box) (g : Ghosts) (hs : List ℕ) → Inv c g → ((h : ℕ) → Member h hs → 1 ≤ h) → Chain (c .links) (c .state .current) hs → g .scans .currents ≡ hs
-currents-fixed c g hs v f d = chain-unique (c .links) (c .state .current) (g .scans .currents) hs (currents-entry c g v) f (v .marks .currents-chain) d
+pub currents-fixed : (c : Box) (g : Ghosts) (hs : List ℕ) → Inv c g → ((h : ℕ) → Member h hs → 1 ≤ h) → Chain (c .directory .links) (c .collector .current) hs → g .scans .currents ≡ hs
+currents-fixed c g hs v f d = chain-unique (c .directory .links) (c .collector .current) (g .scans .currents) hs (currents-entry c g v) f (v .marks .currents-chain) d

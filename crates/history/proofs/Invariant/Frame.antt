@@ -8,8 +8,9 @@ use mathlib.Core.List.{List}
 use mathlib.Core.Path.{_≡_, sym, _∙_, ap, ap₂, subst}
 use native.Mathlib.Omega.{arith}
 use lib.ListN.{length}
-use Rattle.memory.specs.Limits.{half-word, register-count}
-use Rattle.memory.specs.Box.{Box, Word, handle-of, names-tuple, word-at, register, address, size-of, marked, deep}
+use Rattle.rules.specs.Limits.{half-word, register-count}
+use Rattle.rules.specs.Parts.{Word, Box}
+use Rattle.rules.specs.Box.{handle-of, names-tuple, word-at, register, address, size-of, marked, deep}
 use Rattle.history.specs.Agreement.{Member}
 use Rattle.history.proofs.Invariant.Statement.{Plan, Scans, Ghosts, Inv, all, listed, word, rooms, marked-rooms, Chain, Kept, settled, moving, unswept, surviving, Shape, Handles, Layout, Contents, Zero, Marks}
 use Rattle.history.proofs.Lists.Handles.{Perm, perm-member, perm-sym, perm-distinct, perm-length}
@@ -19,21 +20,21 @@ use Rattle.history.proofs.Lists.Laid.{laid-frame, laid-to, rooms-frame,
 
 -- the register and the tag of a hold
 abbrev pub hold-of : Box → ℕ × ℕ
-hold-of b = (b .state .«hold_register», b .state .«hold_tag»)
+hold-of b = (b .hold .register, b .hold .tag)
 
 pub record SameShape (b c : Box) : Type 0 where
-  pub m-same : c .state .m ≡ b .state .m
-  pub h-same : c .state .h ≡ b .state .h
-  pub words-same : length (c .words) ≡ length (b .words)
-  pub flags-same : length (c .flags) ≡ length (b .flags)
-  pub addresses-same : length (c .addresses) ≡ length (b .addresses)
-  pub sizes-same : length (c .sizes) ≡ length (b .sizes)
-  pub links-same : length (c .links) ≡ length (b .links)
-  pub marks-same : length (c .marks) ≡ length (b .marks)
-  pub deeps-same : length (c .deeps) ≡ length (b .deeps)
-  pub registers-same : length (c .state .registers) ≡ length (b .state .registers)
-  pub register-flags-same : length (c .state .flags) ≡ length (b .state .flags)
-  pub held-same : c .state .held ≡ true → (b .state .held ≡ true) × (hold-of c ≡ hold-of b)
+  pub m-same : c .m ≡ b .m
+  pub h-same : c .h ≡ b .h
+  pub words-same : length (c .memory .words) ≡ length (b .memory .words)
+  pub flags-same : length (c .memory .flags) ≡ length (b .memory .flags)
+  pub addresses-same : length (c .directory .addresses) ≡ length (b .directory .addresses)
+  pub sizes-same : length (c .directory .sizes) ≡ length (b .directory .sizes)
+  pub links-same : length (c .directory .links) ≡ length (b .directory .links)
+  pub marks-same : length (c .directory .marks) ≡ length (b .directory .marks)
+  pub deeps-same : length (c .directory .deeps) ≡ length (b .directory .deeps)
+  pub registers-same : length (c .registers .words) ≡ length (b .registers .words)
+  pub register-flags-same : length (c .registers .flags) ≡ length (b .registers .flags)
+  pub held-same : c .hold .held ≡ true → (b .hold .held ≡ true) × (hold-of c ≡ hold-of b)
 
 pub shape-same : (b c : Box) → SameShape b c → Shape b → Shape c
 shape-same b c s p =
@@ -54,8 +55,8 @@ shape-same b c s p =
 -- ---- handles
 
 -- the handles in other lists, each once as before
-pub handles-moved : (b c : Box) (p q : Plan) (free free′ : List ℕ) → Perm (all p free) (all q free′) → c .state .h ≡ b .state .h
-    → Chain (c .links) (c .state .free) free′ → Handles b p free → Handles c q free′
+pub handles-moved : (b c : Box) (p q : Plan) (free free′ : List ℕ) → Perm (all p free) (all q free′) → c .h ≡ b .h
+    → Chain (c .directory .links) (c .free) free′ → Handles b p free → Handles c q free′
 handles-moved b c p q free free′ m e ch i =
     record {
       distinct = perm-distinct m (i .distinct);
@@ -66,7 +67,7 @@ handles-moved b c p q free free′ m e ch i =
     }
 
 -- the same lists
-pub handles-same : (b c : Box) (p : Plan) (free : List ℕ) → c .state .h ≡ b .state .h → Chain (c .links) (c .state .free) free → Handles b p free → Handles c p free
+pub handles-same : (b c : Box) (p : Plan) (free : List ℕ) → c .h ≡ b .h → Chain (c .directory .links) (c .free) free → Handles b p free → Handles c p free
 handles-same b c p free e ch i =
     record { distinct = i .distinct; entries = λ h x. rw e (i .entries h x); every = λ h l u. i .every h l (rw e at u); count = i .count ∙ sym e; free-chain = ch }
 
@@ -74,18 +75,18 @@ handles-same b c p free e ch i =
 
 -- addresses, sizes and memory as they were
 pub layout-same : (b c : Box) (p : Plan) → ((h : ℕ) → address h c ≡ address h b) → ((h : ℕ) → size-of h c ≡ size-of h b)
-    → ((a : ℕ) → word-at a c ≡ word-at a b) → c .state .top ≡ b .state .top → c .state .m ≡ b .state .m → Layout b p → Layout c p
+    → ((a : ℕ) → word-at a c ≡ word-at a b) → c .top ≡ b .top → c .m ≡ b .m → Layout b p → Layout c p
 layout-same b c p ad sz wd t m l =
     record {
       done-laid = laid-frame b c 0 (p .done) (p .low) (λ h x. ad h) (λ h x. sz h) (λ h x. wd (address h b)) (l .done-laid);
-      ahead-laid = laid-to c (p .base) (p .ahead) (b .state .top) (c .state .top) (sym t) (laid-frame b c (p .base) (p .ahead) (b .state .top) (λ h x. ad h) (λ h x. sz h) (λ h x. wd (address h b)) (l .ahead-laid));
+      ahead-laid = laid-to c (p .base) (p .ahead) (b .top) (c .top) (sym t) (laid-frame b c (p .base) (p .ahead) (b .top) (λ h x. ad h) (λ h x. sz h) (λ h x. wd (address h b)) (l .ahead-laid));
       low-base = rw (rooms-frame b c (p .mid) (λ h x. sz h)) (l .low-base);
       top-fits = rw (t, m) (l .top-fits);
     }
 
 -- ---- zero
 
-pub zero-same : (b c : Box) (z : ℕ) → ((a : ℕ) → word-at a c ≡ word-at a b) → c .state .top ≡ b .state .top → c .state .live ≡ b .state .live → Zero b z → Zero c z
+pub zero-same : (b c : Box) (z : ℕ) → ((a : ℕ) → word-at a c ≡ word-at a b) → c .top ≡ b .top → c .collector .live ≡ b .collector .live → Zero b z → Zero c z
 zero-same b c z wd t l i = record { above-top = λ a u. wd a ∙ i .above-top a (rw t at u); behind = λ a u v. wd a ∙ i .behind a (rw l at u) v }
 
 -- ---- the kept tuples
@@ -138,7 +139,7 @@ pub record Next (b : Box) (g : Ghosts) (c : Box) : Type 0 where
   pub calm : Calm b (g .plan) c (ghosts .plan)
 
 -- the same plan: kept as before, where marks stay and the sweep does not begin or end
-pub kept-same : (b c : Box) (p : Plan) → (b .state .phase ≤ 3 → c .state .phase ≤ 3) → ((h : ℕ) → marked h b ≡ true → marked h c ≡ true)
+pub kept-same : (b c : Box) (p : Plan) → (b .collector .phase ≤ 3 → c .collector .phase ≤ 3) → ((h : ℕ) → marked h b ≡ true → marked h c ≡ true)
     → (h : ℕ) → Kept b p h → Kept c p h
 kept-same b c p u m h (settled x) = settled x
 kept-same b c p u m h (moving x) = moving x
@@ -149,9 +150,9 @@ kept-same b c p u m h (surviving x t) = surviving x (m h t)
 
 -- marks, deep flags, sizes, links and the numbers as they were; words of unswept tuples too
 pub marks-same : (b c : Box) (p : Plan) (free : List ℕ) (s : Scans) → ((h : ℕ) → marked h c ≡ marked h b) → ((h : ℕ) → deep h c ≡ deep h b)
-    → ((h : ℕ) → size-of h c ≡ size-of h b) → c .links ≡ b .links → c .state .live ≡ b .state .live → c .state .next ≡ b .state .next
-    → c .state .current ≡ b .state .current
-    → (c .state .phase ≤ 3 → b .state .phase ≤ 3) → (c .state .phase ≤ 3 → (h i : ℕ) → word h i c ≡ word h i b) → Marks b p free s → Marks c p free s
+    → ((h : ℕ) → size-of h c ≡ size-of h b) → c .directory .links ≡ b .directory .links → c .collector .live ≡ b .collector .live → c .collector .next ≡ b .collector .next
+    → c .collector .current ≡ b .collector .current
+    → (c .collector .phase ≤ 3 → b .collector .phase ≤ 3) → (c .collector .phase ≤ 3 → (h i : ℕ) → word h i c ≡ word h i b) → Marks b p free s → Marks c p free s
 marks-same b c p free s mk dp sz ln lv nx cr ph wd i =
     record {
       free-unmarked = λ h x. mk h ∙ i .free-unmarked h x;
@@ -170,7 +171,7 @@ marks-same b c p free s mk dp sz ln lv nx cr ph wd i =
     sums : rooms b (p .mid) + marked-rooms b (p .ahead) ≡ rooms c (p .mid) + marked-rooms c (p .ahead)
     sums = sym (ap₂ (λ (x y : ℕ). x + y) (rooms-frame b c (p .mid) (λ h x. sz h)) (marked-rooms-frame b c (p .ahead) (λ h x. sz h) (λ h x. mk h)))
 
-    dark : c .state .phase ≤ 3 → (h : ℕ) → Member h (p .ahead) → marked h c ≡ true → ¬ Member h (listed s) → (k : ℕ) → k < size-of h c
+    dark : c .collector .phase ≤ 3 → (h : ℕ) → Member h (p .ahead) → marked h c ≡ true → ¬ Member h (listed s) → (k : ℕ) → k < size-of h c
         → names-tuple (word h (k + 1) c) ≡ true → marked (handle-of (word h (k + 1) c)) c ≡ true
     dark l h x t o k u n =
         let e : word h (k + 1) c ≡ word h (k + 1) b = wd l h (k + 1) in

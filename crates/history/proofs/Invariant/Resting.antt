@@ -5,8 +5,9 @@ use mathlib.Core.Bool.{true, false, false≢true}
 use mathlib.Core.List.{List, []}
 use mathlib.Core.Path.{_≡_, refl, sym, _∙_}
 use native.Mathlib.Omega.{arith}
-use Rattle.memory.specs.Box.{Box, data-word, word-at, marked}
-use Rattle.memory.specs.Collector.{at-rest}
+use Rattle.rules.specs.Parts.{Box}
+use Rattle.rules.specs.Box.{data-word, word-at, marked}
+use Rattle.rules.specs.Collector.{at-rest}
 use Rattle.history.specs.Agreement.{Member}
 use Rattle.history.proofs.Invariant.Statement.{Plan, Ghosts, Inv, Laid, Shape, Handles, Layout, Contents, Zero, Marks, Stage, rooms, Kept, settled, moving, unswept, surviving}
 use Rattle.history.proofs.Lists.Laid.{marked-rooms-none, laid-frame}
@@ -22,14 +23,14 @@ resting hs free = record { plan = resting-plan hs; free = free; scans = record {
 pub record Finished (c : Box) (hs free : List ℕ) : Type 0 where
   pub shape : Shape c
   pub handles : Handles c (resting-plan hs) free
-  pub laid : Laid c 0 hs (c .state .top)
-  pub top-fits : c .state .top ≤ c .state .m
+  pub laid : Laid c 0 hs (c .top)
+  pub top-fits : c .top ≤ c .m
   pub contents : Contents (at-rest c) (resting-plan hs)
-  pub above-top : (a : ℕ) → c .state .top ≤ a → word-at a c ≡ data-word 0
+  pub above-top : (a : ℕ) → c .top ≤ a → word-at a c ≡ data-word 0
   pub unmarked : (h : ℕ) → Member h hs → marked h c ≡ false
   pub free-unmarked : (h : ℕ) → Member h free → marked h c ≡ false
-  pub no-next : c .state .next ≡ 0
-  pub no-current : c .state .current ≡ 0
+  pub no-next : c .collector .next ≡ 0
+  pub no-current : c .collector .current ≡ 0
 
 rest-shape : (c : Box) → Shape c → Shape (at-rest c)
 unfolding at-rest
@@ -44,7 +45,7 @@ unfolding at-rest rooms
 rest-layout c hs free f =
     record {
       done-laid = refl;
-      ahead-laid = laid-frame c (at-rest c) 0 hs (c .state .top) (λ h x. refl) (λ h x. refl) (λ h x. refl) (f .laid);
+      ahead-laid = laid-frame c (at-rest c) 0 hs (c .top) (λ h x. refl) (λ h x. refl) (λ h x. refl) (f .laid);
       low-base = omega arith;
       top-fits = f .top-fits;
     }

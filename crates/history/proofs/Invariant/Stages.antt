@@ -6,7 +6,8 @@ use mathlib.Core.List.{List, [], _∷_}
 use mathlib.Core.Logic.{_⊎_}
 use mathlib.Core.Path.{_≡_, subst}
 use native.Mathlib.Omega.{arith}
-use Rattle.memory.specs.Box.{Box, handle-of, names-tuple, marked}
+use Rattle.rules.specs.Parts.{Box}
+use Rattle.rules.specs.Box.{handle-of, names-tuple, marked}
 use Rattle.history.specs.Agreement.{Member}
 use Rattle.history.proofs.Invariant.Statement.{Plan, Ghosts, Handles, Move, Kept, settled, moving, unswept, surviving, Unswept, Unlisted, Scan, Stage, at-rest, finding, scanning, adding, sweeping, reading, clearing, writing, zeroing, word}
 use Rattle.history.proofs.Lists.Handles.{among-member, among-ahead}
@@ -28,17 +29,17 @@ pub record Scanning (b : Box) (g : Ghosts) : Type 0 where
   pub unswept-yet : Unswept g
   pub scanned : ℕ
   pub scan-is : Scan b g scanned
-  pub seen : (k : ℕ) → k + 1 < b .state .index → names-tuple (word scanned (k + 1) b) ≡ true → marked (handle-of (word scanned (k + 1) b)) b ≡ true
+  pub seen : (k : ℕ) → k + 1 < b .collector .index → names-tuple (word scanned (k + 1) b) ≡ true → marked (handle-of (word scanned (k + 1) b)) b ≡ true
 
 pub record Adding (b : Box) (g : Ghosts) : Type 0 where
   pub unswept-yet : Unswept g
   pub scanned : ℕ
   pub scan-is : Scan b g scanned
-  pub tuple-ahead : Member (b .state .tuple) (g .plan .ahead)
-  pub seen : (k : ℕ) → k + 1 < b .state .index → names-tuple (word scanned (k + 1) b) ≡ true
-      → (marked (handle-of (word scanned (k + 1) b)) b ≡ true) ⊎ (handle-of (word scanned (k + 1) b) ≡ b .state .tuple)
+  pub tuple-ahead : Member (b .collector .tuple) (g .plan .ahead)
+  pub seen : (k : ℕ) → k + 1 < b .collector .index → names-tuple (word scanned (k + 1) b) ≡ true
+      → (marked (handle-of (word scanned (k + 1) b)) b ≡ true) ⊎ (handle-of (word scanned (k + 1) b) ≡ b .collector .tuple)
 
-pub rests-of : (b : Box) (g : Ghosts) → Stage b g → b .state .phase ≡ 0 → Rests b g
+pub rests-of : (b : Box) (g : Ghosts) → Stage b g → b .collector .phase ≡ 0 → Rests b g
 rests-of b g (at-rest p u l m) e = record { unswept-yet = u; unlisted = l; unmarked = m }
 rests-of b g (finding p u c r) e = absurd (omega arith)
 rests-of b g (scanning p u s c f) e = absurd (omega arith)
@@ -49,7 +50,7 @@ rests-of b g (clearing p m i z) e = absurd (omega arith)
 rests-of b g (writing p m i z) e = absurd (omega arith)
 rests-of b g (zeroing p u m l s d i z) e = absurd (omega arith)
 
-pub finds-of : (b : Box) (g : Ghosts) → Stage b g → b .state .phase ≡ 1 → Finds b g
+pub finds-of : (b : Box) (g : Ghosts) → Stage b g → b .collector .phase ≡ 1 → Finds b g
 finds-of b g (at-rest p u l m) e = absurd (omega arith)
 finds-of b g (finding p u c r) e = record { unswept-yet = u; no-currents = c; no-gray = r }
 finds-of b g (scanning p u s c f) e = absurd (omega arith)
@@ -60,7 +61,7 @@ finds-of b g (clearing p m i z) e = absurd (omega arith)
 finds-of b g (writing p m i z) e = absurd (omega arith)
 finds-of b g (zeroing p u m l s d i z) e = absurd (omega arith)
 
-pub scanning-of : (b : Box) (g : Ghosts) → Stage b g → b .state .phase ≡ 2 → Scanning b g
+pub scanning-of : (b : Box) (g : Ghosts) → Stage b g → b .collector .phase ≡ 2 → Scanning b g
 scanning-of b g (at-rest p u l m) e = absurd (omega arith)
 scanning-of b g (finding p u c r) e = absurd (omega arith)
 scanning-of b g (scanning p u s c f) e = record { unswept-yet = u; scanned = s; scan-is = c; seen = f }
@@ -71,7 +72,7 @@ scanning-of b g (clearing p m i z) e = absurd (omega arith)
 scanning-of b g (writing p m i z) e = absurd (omega arith)
 scanning-of b g (zeroing p u m l s d i z) e = absurd (omega arith)
 
-pub adding-of : (b : Box) (g : Ghosts) → Stage b g → b .state .phase ≡ 3 → Adding b g
+pub adding-of : (b : Box) (g : Ghosts) → Stage b g → b .collector .phase ≡ 3 → Adding b g
 adding-of b g (at-rest p u l m) e = absurd (omega arith)
 adding-of b g (finding p u c r) e = absurd (omega arith)
 adding-of b g (scanning p u s c f) e = absurd (omega arith)
@@ -86,13 +87,13 @@ adding-of b g (zeroing p u m l s d i z) e = absurd (omega arith)
 pub record Sweeps (b : Box) (g : Ghosts) : Type 0 where
   pub unlisted : Unlisted g
   pub no-mid : g .plan .mid ≡ []
-  pub low-is : g .plan .low ≡ b .state .dest
-  pub base-is : g .plan .base ≡ b .state .src
-  pub zeroed-is : g .zeroed ≡ b .state .src
+  pub low-is : g .plan .low ≡ b .collector .dest
+  pub base-is : g .plan .base ≡ b .collector .src
+  pub zeroed-is : g .zeroed ≡ b .collector .src
   pub behind : List ℕ
-  pub ahead-is : g .plan .ahead ≡ b .state .tuple ∷ behind
+  pub ahead-is : g .plan .ahead ≡ b .collector .tuple ∷ behind
 
-pub sweeps-of : (b : Box) (g : Ghosts) → Stage b g → b .state .phase ≡ 4 → Sweeps b g
+pub sweeps-of : (b : Box) (g : Ghosts) → Stage b g → b .collector .phase ≡ 4 → Sweeps b g
 sweeps-of b g (at-rest p u l m) e = absurd (omega arith)
 sweeps-of b g (finding p u c r) e = absurd (omega arith)
 sweeps-of b g (scanning p u s c f) e = absurd (omega arith)
@@ -106,10 +107,10 @@ sweeps-of b g (zeroing p u m l s d i z) e = absurd (omega arith)
 -- phase 5
 pub record AtRead (b : Box) (g : Ghosts) : Type 0 where
   pub move : Move b g
-  pub index-most : b .state .index ≤ b .state .size + 1
-  pub zeroed-is : g .zeroed ≡ b .state .src + b .state .index
+  pub index-most : b .collector .index ≤ b .collector .size + 1
+  pub zeroed-is : g .zeroed ≡ b .collector .src + b .collector .index
 
-pub at-read : (b : Box) (g : Ghosts) → Stage b g → b .state .phase ≡ 5 → AtRead b g
+pub at-read : (b : Box) (g : Ghosts) → Stage b g → b .collector .phase ≡ 5 → AtRead b g
 at-read b g (at-rest q u n m) p = absurd (omega arith)
 at-read b g (finding q u n m) p = absurd (omega arith)
 at-read b g (scanning q u s n m) p = absurd (omega arith)
@@ -123,10 +124,10 @@ at-read b g (zeroing q u n l s d i z) p = absurd (omega arith)
 -- phase 6
 pub record AtClear (b : Box) (g : Ghosts) : Type 0 where
   pub move : Move b g
-  pub index-most : b .state .index ≤ b .state .size
-  pub zeroed-is : g .zeroed ≡ b .state .src + b .state .index
+  pub index-most : b .collector .index ≤ b .collector .size
+  pub zeroed-is : g .zeroed ≡ b .collector .src + b .collector .index
 
-pub at-clear : (b : Box) (g : Ghosts) → Stage b g → b .state .phase ≡ 6 → AtClear b g
+pub at-clear : (b : Box) (g : Ghosts) → Stage b g → b .collector .phase ≡ 6 → AtClear b g
 at-clear b g (at-rest q u n m) p = absurd (omega arith)
 at-clear b g (finding q u n m) p = absurd (omega arith)
 at-clear b g (scanning q u s n m) p = absurd (omega arith)
@@ -140,10 +141,10 @@ at-clear b g (zeroing q u n l s d i z) p = absurd (omega arith)
 -- phase 7
 pub record AtWrite (b : Box) (g : Ghosts) : Type 0 where
   pub move : Move b g
-  pub index-most : b .state .index ≤ b .state .size
-  pub zeroed-is : g .zeroed ≡ b .state .src + b .state .index + 1
+  pub index-most : b .collector .index ≤ b .collector .size
+  pub zeroed-is : g .zeroed ≡ b .collector .src + b .collector .index + 1
 
-pub at-write : (b : Box) (g : Ghosts) → Stage b g → b .state .phase ≡ 7 → AtWrite b g
+pub at-write : (b : Box) (g : Ghosts) → Stage b g → b .collector .phase ≡ 7 → AtWrite b g
 at-write b g (at-rest q u n m) p = absurd (omega arith)
 at-write b g (finding q u n m) p = absurd (omega arith)
 at-write b g (scanning q u s n m) p = absurd (omega arith)
@@ -158,13 +159,13 @@ at-write b g (zeroing q u n l s d i z) p = absurd (omega arith)
 pub record Zeroes (b : Box) (g : Ghosts) : Type 0 where
   pub unlisted : Unlisted g
   pub no-mid : g .plan .mid ≡ []
-  pub low-is : g .plan .low ≡ b .state .dest
-  pub base-is : g .plan .base ≡ b .state .src + b .state .size + 1
-  pub dest-src : b .state .dest ≤ b .state .src
-  pub index-most : b .state .index ≤ b .state .size + 1
-  pub zeroed-is : g .zeroed ≡ b .state .src + b .state .index
+  pub low-is : g .plan .low ≡ b .collector .dest
+  pub base-is : g .plan .base ≡ b .collector .src + b .collector .size + 1
+  pub dest-src : b .collector .dest ≤ b .collector .src
+  pub index-most : b .collector .index ≤ b .collector .size + 1
+  pub zeroed-is : g .zeroed ≡ b .collector .src + b .collector .index
 
-pub zeroes-of : (b : Box) (g : Ghosts) → Stage b g → b .state .phase ≡ 8 → Zeroes b g
+pub zeroes-of : (b : Box) (g : Ghosts) → Stage b g → b .collector .phase ≡ 8 → Zeroes b g
 zeroes-of b g (at-rest p u l m) e = absurd (omega arith)
 zeroes-of b g (finding p u c r) e = absurd (omega arith)
 zeroes-of b g (scanning p u s c f) e = absurd (omega arith)
@@ -177,7 +178,7 @@ zeroes-of b g (zeroing p u m l s d i z) e = record { unlisted = u; no-mid = m; l
 
 -- ---- before the sweep
 
-pub unswept-of : (b : Box) (g : Ghosts) → Stage b g → b .state .phase ≤ 3 → Unswept g
+pub unswept-of : (b : Box) (g : Ghosts) → Stage b g → b .collector .phase ≤ 3 → Unswept g
 unswept-of b g (at-rest p u l m) e = u
 unswept-of b g (finding p u c r) e = u
 unswept-of b g (scanning p u s c f) e = u
@@ -196,5 +197,5 @@ kept-ahead b g h u (unswept x l) = x
 kept-ahead b g h u (surviving x t) = x
 
 -- a tuple ahead has an entry
-pub ahead-entry : (b : Box) (p : Plan) (free : List ℕ) (h : ℕ) → Handles b p free → Member h (p .ahead) → (1 ≤ h) × (h < b .state .h)
+pub ahead-entry : (b : Box) (p : Plan) (free : List ℕ) (h : ℕ) → Handles b p free → Member h (p .ahead) → (1 ≤ h) × (h < b .h)
 ahead-entry b p free h i x = i .entries h (among-member h (p .done) (p .mid) (p .ahead) free (among-ahead x))

@@ -7,9 +7,10 @@ use mathlib.Core.List.{List, [], _∷_, _++_}
 use mathlib.Core.Logic.{_⊎_}
 use mathlib.Core.Path.{_≡_}
 use lib.ListN.{length, getD}
-use Rattle.memory.specs.Limits.{half-word, register-count, in-range}
-use Rattle.memory.specs.Box.{Box, Word, data-word, handle-of, names-tuple, word-at, register, address, size-of, marked, deep}
-use Rattle.memory.specs.Place.{place, read}
+use Rattle.rules.specs.Limits.{half-word, register-count, in-range}
+use Rattle.rules.specs.Parts.{Word, Box}
+use Rattle.rules.specs.Box.{data-word, handle-of, names-tuple, word-at, register, address, size-of, marked, deep}
+use Rattle.rules.specs.Place.{place, read}
 use Rattle.history.specs.Agreement.{Member, Distinct}
 
 -- how the tuples lie
@@ -77,38 +78,38 @@ marked-rooms b (h ∷ hs) = cond (marked h b) (size-of h b + 1) 0 + marked-rooms
 pub data Kept (b : Box) (p : Plan) (h : ℕ) : Type 0 where
   settled : Member h (p .done) → Kept b p h
   moving : Member h (p .mid) → Kept b p h
-  unswept : Member h (p .ahead) → b .state .phase ≤ 3 → Kept b p h
+  unswept : Member h (p .ahead) → b .collector .phase ≤ 3 → Kept b p h
   surviving : Member h (p .ahead) → marked h b ≡ true → Kept b p h
 
 -- ---- the groups
 
 pub record Shape (b : Box) : Type 0 where
-  pub range : in-range (b .state .m) (b .state .h) ≡ true
-  pub words-length : length (b .words) ≡ b .state .m
-  pub flags-length : length (b .flags) ≡ b .state .m
-  pub addresses-length : length (b .addresses) ≡ b .state .h
-  pub sizes-length : length (b .sizes) ≡ b .state .h
-  pub links-length : length (b .links) ≡ b .state .h
-  pub marks-length : length (b .marks) ≡ b .state .h
-  pub deeps-length : length (b .deeps) ≡ b .state .h
-  pub registers-length : length (b .state .registers) ≡ register-count
-  pub register-flags-length : length (b .state .flags) ≡ register-count
+  pub range : in-range (b .m) (b .h) ≡ true
+  pub words-length : length (b .memory .words) ≡ b .m
+  pub flags-length : length (b .memory .flags) ≡ b .m
+  pub addresses-length : length (b .directory .addresses) ≡ b .h
+  pub sizes-length : length (b .directory .sizes) ≡ b .h
+  pub links-length : length (b .directory .links) ≡ b .h
+  pub marks-length : length (b .directory .marks) ≡ b .h
+  pub deeps-length : length (b .directory .deeps) ≡ b .h
+  pub registers-length : length (b .registers .words) ≡ register-count
+  pub register-flags-length : length (b .registers .flags) ≡ register-count
   -- a hold names a register, and its tag is of 16 bits
-  pub held-register : b .state .held ≡ true → (b .state .«hold_register» < register-count) × (b .state .«hold_tag» < half-word)
+  pub held-register : b .hold .held ≡ true → (b .hold .register < register-count) × (b .hold .tag < half-word)
 
 pub record Handles (b : Box) (p : Plan) (free : List ℕ) : Type 0 where
   pub distinct : Distinct (all p free)
-  pub entries : (h : ℕ) → Member h (all p free) → (1 ≤ h) × (h < b .state .h)
-  pub every : (h : ℕ) → 1 ≤ h → h < b .state .h → Member h (all p free)
-  pub count : suc (length (all p free)) ≡ b .state .h
-  pub free-chain : Chain (b .links) (b .state .free) free
+  pub entries : (h : ℕ) → Member h (all p free) → (1 ≤ h) × (h < b .h)
+  pub every : (h : ℕ) → 1 ≤ h → h < b .h → Member h (all p free)
+  pub count : suc (length (all p free)) ≡ b .h
+  pub free-chain : Chain (b .directory .links) (b .free) free
 
 pub record Layout (b : Box) (p : Plan) : Type 0 where
   pub done-laid : Laid b 0 (p .done) (p .low)
-  pub ahead-laid : Laid b (p .base) (p .ahead) (b .state .top)
+  pub ahead-laid : Laid b (p .base) (p .ahead) (b .top)
   -- what is settled and what is being moved end at or below what lies ahead
   pub low-base : p .low + rooms b (p .mid) ≤ p .base
-  pub top-fits : b .state .top ≤ b .state .m
+  pub top-fits : b .top ≤ b .m
 
 pub record Contents (b : Box) (p : Plan) : Type 0 where
   pub roots-kept : (r : ℕ) → r < register-count → names-tuple (register r b) ≡ true → Kept b p (handle-of (register r b))
@@ -116,22 +117,22 @@ pub record Contents (b : Box) (p : Plan) : Type 0 where
   pub words-kept : (h : ℕ) → Kept b p h → (k : ℕ) → k < size-of h b → names-tuple (word h (k + 1) b) ≡ true → Kept b p (handle-of (word h (k + 1) b)) × (deep h b ≡ true)
 
 pub record Zero (b : Box) (zeroed : ℕ) : Type 0 where
-  pub above-top : (a : ℕ) → b .state .top ≤ a → word-at a b ≡ data-word 0
-  pub behind : (a : ℕ) → b .state .live ≤ a → a < zeroed → word-at a b ≡ data-word 0
+  pub above-top : (a : ℕ) → b .top ≤ a → word-at a b ≡ data-word 0
+  pub behind : (a : ℕ) → b .collector .live ≤ a → a < zeroed → word-at a b ≡ data-word 0
 
 pub record Marks (b : Box) (p : Plan) (free : List ℕ) (s : Scans) : Type 0 where
   pub free-unmarked : (h : ℕ) → Member h free → marked h b ≡ false
   pub done-unmarked : (h : ℕ) → Member h (p .done) → marked h b ≡ false
   pub mid-unmarked : (h : ℕ) → Member h (p .mid) → marked h b ≡ false
-  pub live-is : b .state .live ≡ p .low + (rooms b (p .mid) + marked-rooms b (p .ahead))
-  pub nexts-chain : Chain (b .links) (b .state .next) (s .nexts)
-  pub currents-chain : Chain (b .links) (b .state .current) (s .currents)
+  pub live-is : b .collector .live ≡ p .low + (rooms b (p .mid) + marked-rooms b (p .ahead))
+  pub nexts-chain : Chain (b .directory .links) (b .collector .next) (s .nexts)
+  pub currents-chain : Chain (b .directory .links) (b .collector .current) (s .currents)
   pub listed-distinct : Distinct (listed s)
   pub listed-ahead : (h : ℕ) → Member h (listed s) → Member h (p .ahead)
   pub listed-marked : (h : ℕ) → Member h (listed s) → marked h b ≡ true
   pub listed-deep : (h : ℕ) → Member h (listed s) → deep h b ≡ true
   -- a marked tuple that waits for no scan is black: what it points to is marked
-  pub black : b .state .phase ≤ 3 → (h : ℕ) → Member h (p .ahead) → marked h b ≡ true → ¬ Member h (listed s) → (k : ℕ) → k < size-of h b
+  pub black : b .collector .phase ≤ 3 → (h : ℕ) → Member h (p .ahead) → marked h b ≡ true → ¬ Member h (listed s) → (k : ℕ) → k < size-of h b
       → names-tuple (word h (k + 1) b) ≡ true → marked (handle-of (word h (k + 1) b)) b ≡ true
 
 -- ---- the stages, by phase
@@ -153,39 +154,39 @@ pub record Unlisted (g : Ghosts) : Type 0 where
 -- phases 2 and 3: tuple s is under the scan. What its words before index point to is marked, or, in phase 3, is `tuple`
 pub record Scan (b : Box) (g : Ghosts) (s : ℕ) : Type 0 where
   pub gray-is : g .scans .gray ≡ s ∷ []
-  pub src-is : address s b ≡ b .state .src
-  pub size-is : size-of s b ≡ b .state .size
-  pub index-least : 1 ≤ b .state .index
-  pub index-most : b .state .index ≤ b .state .size + 1
+  pub src-is : address s b ≡ b .collector .src
+  pub size-is : size-of s b ≡ b .collector .size
+  pub index-least : 1 ≤ b .collector .index
+  pub index-most : b .collector .index ≤ b .collector .size + 1
 
 -- phases 5 to 7: the tuple is on its way from src down to dest
 pub record Move (b : Box) (g : Ghosts) : Type 0 where
   pub unlisted : Unlisted g
-  pub mid-is : g .plan .mid ≡ b .state .tuple ∷ []
-  pub low-is : g .plan .low ≡ b .state .dest
-  pub base-is : g .plan .base ≡ b .state .src + b .state .size + 1
-  pub downward : b .state .dest < b .state .src
-  pub src-is : address (b .state .tuple) b ≡ b .state .src
-  pub size-is : size-of (b .state .tuple) b ≡ b .state .size
-  pub control : Control (word (b .state .tuple) 0 b) (b .state .tuple)
+  pub mid-is : g .plan .mid ≡ b .collector .tuple ∷ []
+  pub low-is : g .plan .low ≡ b .collector .dest
+  pub base-is : g .plan .base ≡ b .collector .src + b .collector .size + 1
+  pub downward : b .collector .dest < b .collector .src
+  pub src-is : address (b .collector .tuple) b ≡ b .collector .src
+  pub size-is : size-of (b .collector .tuple) b ≡ b .collector .size
+  pub control : Control (word (b .collector .tuple) 0 b) (b .collector .tuple)
 
 pub data Stage (b : Box) (g : Ghosts) : Type 0 where
-  at-rest : b .state .phase ≡ 0 → Unswept g → Unlisted g → ((h : ℕ) → Member h (g .plan .ahead) → marked h b ≡ false) → Stage b g
-  finding : b .state .phase ≡ 1 → Unswept g → g .scans .currents ≡ [] → g .scans .gray ≡ [] → Stage b g
-  scanning : b .state .phase ≡ 2 → Unswept g → (s : ℕ) → Scan b g s
-      → ((k : ℕ) → k + 1 < b .state .index → names-tuple (word s (k + 1) b) ≡ true → marked (handle-of (word s (k + 1) b)) b ≡ true)
+  at-rest : b .collector .phase ≡ 0 → Unswept g → Unlisted g → ((h : ℕ) → Member h (g .plan .ahead) → marked h b ≡ false) → Stage b g
+  finding : b .collector .phase ≡ 1 → Unswept g → g .scans .currents ≡ [] → g .scans .gray ≡ [] → Stage b g
+  scanning : b .collector .phase ≡ 2 → Unswept g → (s : ℕ) → Scan b g s
+      → ((k : ℕ) → k + 1 < b .collector .index → names-tuple (word s (k + 1) b) ≡ true → marked (handle-of (word s (k + 1) b)) b ≡ true)
       → Stage b g
-  adding : b .state .phase ≡ 3 → Unswept g → (s : ℕ) → Scan b g s → Member (b .state .tuple) (g .plan .ahead)
-      → ((k : ℕ) → k + 1 < b .state .index → names-tuple (word s (k + 1) b) ≡ true → (marked (handle-of (word s (k + 1) b)) b ≡ true) ⊎ (handle-of (word s (k + 1) b) ≡ b .state .tuple))
+  adding : b .collector .phase ≡ 3 → Unswept g → (s : ℕ) → Scan b g s → Member (b .collector .tuple) (g .plan .ahead)
+      → ((k : ℕ) → k + 1 < b .collector .index → names-tuple (word s (k + 1) b) ≡ true → (marked (handle-of (word s (k + 1) b)) b ≡ true) ⊎ (handle-of (word s (k + 1) b) ≡ b .collector .tuple))
       → Stage b g
-  sweeping : b .state .phase ≡ 4 → Unlisted g → g .plan .mid ≡ [] → g .plan .low ≡ b .state .dest → g .plan .base ≡ b .state .src → g .zeroed ≡ b .state .src
-      → (hs : List ℕ) → g .plan .ahead ≡ b .state .tuple ∷ hs → Stage b g
-  reading : b .state .phase ≡ 5 → Move b g → b .state .index ≤ b .state .size + 1 → g .zeroed ≡ b .state .src + b .state .index → Stage b g
-  clearing : b .state .phase ≡ 6 → Move b g → b .state .index ≤ b .state .size → g .zeroed ≡ b .state .src + b .state .index → Stage b g
-  writing : b .state .phase ≡ 7 → Move b g → b .state .index ≤ b .state .size → g .zeroed ≡ b .state .src + b .state .index + 1 → Stage b g
-  zeroing : b .state .phase ≡ 8 → Unlisted g → g .plan .mid ≡ [] → g .plan .low ≡ b .state .dest
-      → g .plan .base ≡ b .state .src + b .state .size + 1 → b .state .dest ≤ b .state .src
-      → b .state .index ≤ b .state .size + 1 → g .zeroed ≡ b .state .src + b .state .index → Stage b g
+  sweeping : b .collector .phase ≡ 4 → Unlisted g → g .plan .mid ≡ [] → g .plan .low ≡ b .collector .dest → g .plan .base ≡ b .collector .src → g .zeroed ≡ b .collector .src
+      → (hs : List ℕ) → g .plan .ahead ≡ b .collector .tuple ∷ hs → Stage b g
+  reading : b .collector .phase ≡ 5 → Move b g → b .collector .index ≤ b .collector .size + 1 → g .zeroed ≡ b .collector .src + b .collector .index → Stage b g
+  clearing : b .collector .phase ≡ 6 → Move b g → b .collector .index ≤ b .collector .size → g .zeroed ≡ b .collector .src + b .collector .index → Stage b g
+  writing : b .collector .phase ≡ 7 → Move b g → b .collector .index ≤ b .collector .size → g .zeroed ≡ b .collector .src + b .collector .index + 1 → Stage b g
+  zeroing : b .collector .phase ≡ 8 → Unlisted g → g .plan .mid ≡ [] → g .plan .low ≡ b .collector .dest
+      → g .plan .base ≡ b .collector .src + b .collector .size + 1 → b .collector .dest ≤ b .collector .src
+      → b .collector .index ≤ b .collector .size + 1 → g .zeroed ≡ b .collector .src + b .collector .index → Stage b g
 
 pub record Inv (b : Box) (g : Ghosts) : Type 0 where
   pub shape : Shape b

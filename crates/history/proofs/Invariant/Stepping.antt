@@ -7,11 +7,11 @@ use mathlib.Core.List.{List, []}
 use mathlib.Core.Logic.{_≢_, _⊎_, inl}
 use mathlib.Core.Path.{_≡_, refl, sym, _∙_, ap, subst}
 use native.Mathlib.Omega.{arith}
-use Rattle.memory.specs.Limits.{register-count}
-use Rattle.memory.specs.State.{with-next}
-use Rattle.memory.specs.Box.{Box, Reply, reply, handle-of, names-tuple, with-state, word-at, register, marked, deep}
-use Rattle.memory.specs.Place.{list-next, mark-live, shade}
-use Rattle.memory.specs.Collector.{going, to-phase, after, at-rest, end-cycle, scan, begin-sweep, go-on, write-copy, zero-word, step}
+use Rattle.rules.specs.Limits.{register-count}
+use Rattle.rules.specs.Parts.{Box, with-next}
+use Rattle.rules.specs.Box.{Reply, reply, handle-of, names-tuple, word-at, register, marked, deep}
+use Rattle.rules.specs.Place.{list-next, mark-live, shade}
+use Rattle.rules.specs.Collector.{going, to-phase, after, at-rest, end-cycle, scan, begin-sweep, go-on, write-copy, zero-word, step}
 use Rattle.history.specs.Machine.{History}
 use Rattle.history.proofs.Invariant.Statement.{Plan, Ghosts, Inv, Kept, Unswept}
 use Rattle.history.proofs.Invariant.Frame.{Next}
@@ -49,18 +49,18 @@ use Rattle.history.proofs.View.Boxes.{rested-box, scanned-data-box, sca
 
 -- sizes and the request held stay; `begun` is told apart
 pub record SameHold (b c : Box) : Type 0 where
-  pub m-same : c .state .m ≡ b .state .m
-  pub h-same : c .state .h ≡ b .state .h
-  pub held-same : c .state .held ≡ b .state .held
-  pub register-same : c .state .«hold_register» ≡ b .state .«hold_register»
-  pub size-same : c .state .«hold_size» ≡ b .state .«hold_size»
-  pub tag-same : c .state .«hold_tag» ≡ b .state .«hold_tag»
+  pub m-same : c .m ≡ b .m
+  pub h-same : c .h ≡ b .h
+  pub held-same : c .hold .held ≡ b .hold .held
+  pub register-same : c .hold .register ≡ b .hold .register
+  pub size-same : c .hold .size ≡ b .hold .size
+  pub tag-same : c .hold .tag ≡ b .hold .tag
 
 -- a step that starts a cycle has it tracked from here on, and one within a cycle keeps it tracked
 pub data Track (b : Box) (g : Ghosts) (c : Box) (q : Plan) : Type 0 where
-  starts : b .state .phase ≡ 0 → c .state .phase ≡ 1 → (b .state .held ≡ true → c .state .begun ≡ true)
+  starts : b .collector .phase ≡ 0 → c .collector .phase ≡ 1 → (b .hold .held ≡ true → c .hold .begun ≡ true)
       → ((m : History) (number : ℕ → ℕ) → Tracked c q m number m) → Track b g c q
-  tracks : b .state .phase ≢ 0 → c .state .phase ≢ 0 → c .state .begun ≡ b .state .begun
+  tracks : b .collector .phase ≢ 0 → c .collector .phase ≢ 0 → c .hold .begun ≡ b .hold .begun
       → ((m : History) (given : List ℕ) (number : ℕ → ℕ) (started : History) → Related b (g .plan) m given number → Tracked b (g .plan) m number started → Tracked c q m number started)
       → Track b g c q
 
@@ -72,7 +72,7 @@ EndsSpared b g c q =
 
 pub data Stepped (b : Box) (g : Ghosts) : Type 0 where
   goes-on : (c : Box) → step b ≡ reply c 30 → (n : Next b g c) → left c (n .ghosts) < left b g → SameHold b c → Track b g c (n .ghosts .plan) → Stepped b g
-  ends : (c : Box) → step b ≡ end-cycle b c → (n : Next b g (at-rest c)) → b .state .phase ≢ 0 → SameHold b c → c .state .begun ≡ b .state .begun
+  ends : (c : Box) → step b ≡ end-cycle b c → (n : Next b g (at-rest c)) → b .collector .phase ≢ 0 → SameHold b c → c .hold .begun ≡ b .hold .begun
       → EndsSpared b g (at-rest c) (n .ghosts .plan) → Stepped b g
 
 -- ---- never 9
@@ -104,8 +104,8 @@ never-reason b g v (Reason.zero-past-on p i a n u) = omega (arith, zero-more-fit
 -- ---- what is tracked
 
 -- a transition of the marking that adds nothing and marks only what is spared
-marks-spared : (b : Box) (g : Ghosts) → Inv b g → (c : Box) (n : Next b g c) → 1 ≤ b .state .phase → b .state .phase ≤ 3 → 1 ≤ c .state .phase → c .state .phase ≤ 2
-    → c .state .begun ≡ b .state .begun
+marks-spared : (b : Box) (g : Ghosts) → Inv b g → (c : Box) (n : Next b g c) → 1 ≤ b .collector .phase → b .collector .phase ≤ 3 → 1 ≤ c .collector .phase → c .collector .phase ≤ 2
+    → c .hold .begun ≡ b .hold .begun
     → ((m : History) (given : List ℕ) (number : ℕ → ℕ) (started : History) → Related b (g .plan) m given number → Tracked b (g .plan) m number started
     → (h : ℕ) → marked h c ≡ true → (marked h b ≡ true) ⊎ Spared started (number h))
     → Track b g c (n .ghosts .plan)
@@ -114,19 +114,19 @@ marks-spared b g v c n lb ub lc uc e k =
     (λ m given number started r t. tracked-marks b g v c (n .ghosts .plan) (n .calm) m number started t ub (omega arith) (k m given number started r t) (λ x. absurd (omega arith)))
 
 -- one that marks nothing
-marks-none : (b : Box) (g : Ghosts) → Inv b g → (c : Box) (n : Next b g c) → 1 ≤ b .state .phase → b .state .phase ≤ 3 → 1 ≤ c .state .phase → c .state .phase ≤ 2
-    → c .state .begun ≡ b .state .begun → ((h : ℕ) → marked h c ≡ marked h b) → Track b g c (n .ghosts .plan)
+marks-none : (b : Box) (g : Ghosts) → Inv b g → (c : Box) (n : Next b g c) → 1 ≤ b .collector .phase → b .collector .phase ≤ 3 → 1 ≤ c .collector .phase → c .collector .phase ≤ 2
+    → c .hold .begun ≡ b .hold .begun → ((h : ℕ) → marked h c ≡ marked h b) → Track b g c (n .ghosts .plan)
 marks-none b g v c n lb ub lc uc e k = marks-spared b g v c n lb ub lc uc e (λ m given number started r t h x. inl (sym (k h) ∙ x))
 
 -- a transition of the sweep
-sweeps-track : (b : Box) (g : Ghosts) → Inv b g → (c : Box) (n : Next b g c) → 4 ≤ b .state .phase → 4 ≤ c .state .phase
-    → c .state .begun ≡ b .state .begun → Track b g c (n .ghosts .plan)
+sweeps-track : (b : Box) (g : Ghosts) → Inv b g → (c : Box) (n : Next b g c) → 4 ≤ b .collector .phase → 4 ≤ c .collector .phase
+    → c .hold .begun ≡ b .hold .begun → Track b g c (n .ghosts .plan)
 sweeps-track b g v c n lb lc e =
     tracks (omega arith) (omega arith) e
     (λ m given number started r t. tracked-swept b g v c (n .ghosts .plan) (n .calm) m number started t lb lc)
 
 -- the end of a sweep
-sweep-spared : (b : Box) (g : Ghosts) → Inv b g → (c : Box) (n : Next b g c) → 4 ≤ b .state .phase → EndsSpared b g c (n .ghosts .plan)
+sweep-spared : (b : Box) (g : Ghosts) → Inv b g → (c : Box) (n : Next b g c) → 4 ≤ b .collector .phase → EndsSpared b g c (n .ghosts .plan)
 sweep-spared b g v c n l m given number started r t = ended-spared b g v c (n .ghosts .plan) (n .calm) m number started t l
 
 -- the cycle goes on: the steps left fall by the view
@@ -138,7 +138,7 @@ goes b g v c s n =
 
 -- ---- 0
 
-step-rests : (b : Box) (g : Ghosts) → Inv b g → b .state .phase ≡ 0 → step b ≡ going (rested-box b) → Stepped b g
+step-rests : (b : Box) (g : Ghosts) → Inv b g → b .collector .phase ≡ 0 → step b ≡ going (rested-box b) → Stepped b g
 step-rests b g v p s =
     let c : Box = rested-box b in
     let n : Next b g c = onward-next b g c none-wait (rests b g v p) in
@@ -147,19 +147,19 @@ step-rests b g v p s =
 
 -- ---- 1
 
-step-takes-next : (b : Box) (g : Ghosts) → Inv b g → b .state .phase ≡ 1 → b .state .next ≢ 0
-    → step b ≡ going (scan (b .state .next) (with-state (with-next 0 (b .state)) b)) → Stepped b g
+step-takes-next : (b : Box) (g : Ghosts) → Inv b g → b .collector .phase ≡ 1 → b .collector .next ≢ 0
+    → step b ≡ going (scan (b .collector .next) (with-next 0 b)) → Stepped b g
 unfolding scan
 step-takes-next b g v p z s =
-    let c : Box = scan (b .state .next) (with-state (with-next 0 (b .state)) b) in
+    let c : Box = scan (b .collector .next) (with-next 0 b) in
     let n : Next b g c = takes-next b g v p z in
     goes b g v c s n (search) (marks-none b g v c n (omega arith) (omega arith) (omega arith) (omega arith) refl (λ h. refl))
 
-shade-hold : (h : ℕ) (b : Box) → SameHold b (shade h b) × (shade h b .state .begun ≡ b .state .begun)
+shade-hold : (h : ℕ) (b : Box) → SameHold b (shade h b) × (shade h b .hold .begun ≡ b .hold .begun)
 unfolding shade list-next mark-live
 shade-hold h b = go (marked h b) refl (deep h b) refl
   where
-    go : (s : Bool) → marked h b ≡ s → (t : Bool) → deep h b ≡ t → SameHold b (shade h b) × (shade h b .state .begun ≡ b .state .begun)
+    go : (s : Bool) → marked h b ≡ s → (t : Bool) → deep h b ≡ t → SameHold b (shade h b) × (shade h b .hold .begun ≡ b .hold .begun)
     go true f t e = (record { m-same = simp f; h-same = simp f; held-same = simp f; register-same = simp f; size-same = simp f; tag-same = simp f }, simp f)
     go false f true e = (
       record {
@@ -184,18 +184,18 @@ shade-hold h b = go (marked h b) refl (deep h b) refl
       simp (f, e),
     )
 
-step-shades-root : (b : Box) (g : Ghosts) → Inv b g → b .state .phase ≡ 1 → (r : ℕ) → r < register-count → names-tuple (register r b) ≡ true
+step-shades-root : (b : Box) (g : Ghosts) → Inv b g → b .collector .phase ≡ 1 → (r : ℕ) → r < register-count → names-tuple (register r b) ≡ true
     → marked (handle-of (register r b)) b ≡ false → step b ≡ going (shade (handle-of (register r b)) b) → Stepped b g
 step-shades-root b g v p r l x f s =
     let h : ℕ = handle-of (register r b) in
     let c : Box = shade h b in
     let n : Next b g c = shades-root b g v p r l x in
-    let e : c .state .phase ≡ 1 = shade-numbers h b .phase-is ∙ p in
+    let e : c .collector .phase ≡ 1 = shade-numbers h b .phase-is ∙ p in
     goes b g v c s n (shade-hold h b .0)
     (marks-spared b g v c n (omega arith) (omega arith) (omega arith) (omega arith) (shade-hold h b .1)
     (λ m given number started q t. shade-marked-only h b (λ (y : ℕ). Spared started (number y)) (root-spared b (g .plan) m given number q (v .contents) started t r l x)))
 
-step-begins-sweep : (b : Box) (g : Ghosts) → Inv b g → b .state .phase ≡ 1 → b .state .next ≡ 0 → RootsMarked b → b .state .top ≢ 0
+step-begins-sweep : (b : Box) (g : Ghosts) → Inv b g → b .collector .phase ≡ 1 → b .collector .next ≡ 0 → RootsMarked b → b .top ≢ 0
     → step b ≡ going (begin-sweep b) → Stepped b g
 unfolding begin-sweep
 step-begins-sweep b g v p z roots t s =
@@ -205,23 +205,23 @@ step-begins-sweep b g v p z roots t s =
     goes b g v c s (record { ghosts = g; inv = o .inv; calm = o .calm }) (search)
     (tracks (omega arith) (omega arith) refl (λ m given number started r x. tracked-sweep b g v c (g .plan) (o .calm) m number started x (omega arith) refl (λ h. refl) (u .no-done) (u .no-mid)))
 
-step-ends-empty : (b : Box) (g : Ghosts) → Inv b g → b .state .phase ≡ 1 → b .state .next ≡ 0 → b .state .top ≡ 0 → step b ≡ end-cycle b b → Stepped b g
+step-ends-empty : (b : Box) (g : Ghosts) → Inv b g → b .collector .phase ≡ 1 → b .collector .next ≡ 0 → b .top ≡ 0 → step b ≡ end-cycle b b → Stepped b g
 step-ends-empty b g v p z t s =
     ends b s (record { ghosts = resting [] (g .free); inv = ends-empty-inv b g v p z t; calm = ends-empty-calm b (g .plan) }) (omega arith) (search) refl
     (λ m given number started r x h k. absurd (none-kept (at-rest b) h k))
 
 -- ---- 2
 
-step-scans-data : (b : Box) (g : Ghosts) → Inv b g → b .state .phase ≡ 2 → b .state .index ≤ b .state .size
-    → names-tuple (word-at (b .state .src + b .state .index) b) ≡ false → step b ≡ going (scanned-data-box b) → Stepped b g
+step-scans-data : (b : Box) (g : Ghosts) → Inv b g → b .collector .phase ≡ 2 → b .collector .index ≤ b .collector .size
+    → names-tuple (word-at (b .collector .src + b .collector .index) b) ≡ false → step b ≡ going (scanned-data-box b) → Stepped b g
 step-scans-data b g v p i f s =
     let c : Box = scanned-data-box b in
     let n : Next b g c = scans-data b g v p i f in
     goes b g v c s n (search)
     (marks-none b g v c n (omega arith) (omega arith) (omega arith) (omega arith) refl (λ h. refl))
 
-step-scans-pointer : (b : Box) (g : Ghosts) → Inv b g → b .state .phase ≡ 2 → b .state .index ≤ b .state .size
-    → names-tuple (word-at (b .state .src + b .state .index) b) ≡ true → step b ≡ going (scanned-pointer-box b) → Stepped b g
+step-scans-pointer : (b : Box) (g : Ghosts) → Inv b g → b .collector .phase ≡ 2 → b .collector .index ≤ b .collector .size
+    → names-tuple (word-at (b .collector .src + b .collector .index) b) ≡ true → step b ≡ going (scanned-pointer-box b) → Stepped b g
 step-scans-pointer b g v p i f s =
     let c : Box = scanned-pointer-box b in
     let n : Next b g c = scans-pointer b g v p i f in
@@ -229,33 +229,33 @@ step-scans-pointer b g v p i f s =
     (tracks (omega arith) (omega arith) refl
     (λ m given number started r t. tracked-marks b g v c (n .ghosts .plan) (n .calm) m number started t (omega arith) (omega arith) (λ h x. inl x) (λ e. scanned-spared b g m given number started v r t p i f)))
 
-step-scan-ends : (b : Box) (g : Ghosts) → Inv b g → b .state .phase ≡ 2 → b .state .size < b .state .index → b .state .current ≡ 0
+step-scan-ends : (b : Box) (g : Ghosts) → Inv b g → b .collector .phase ≡ 2 → b .collector .size < b .collector .index → b .collector .current ≡ 0
     → step b ≡ going (to-phase 1 b) → Stepped b g
 step-scan-ends b g v p i z s =
     let c : Box = to-phase 1 b in
     let n : Next b g c = scan-ends b g v p i z in
     goes b g v c s n (search) (marks-none b g v c n (omega arith) (omega arith) (omega arith) (omega arith) refl (λ h. refl))
 
-step-takes-current : (b : Box) (g : Ghosts) → Inv b g → b .state .phase ≡ 2 → b .state .size < b .state .index → b .state .current ≢ 0
-    → step b ≡ going (scan (b .state .current) b) → Stepped b g
+step-takes-current : (b : Box) (g : Ghosts) → Inv b g → b .collector .phase ≡ 2 → b .collector .size < b .collector .index → b .collector .current ≢ 0
+    → step b ≡ going (scan (b .collector .current) b) → Stepped b g
 unfolding scan
 step-takes-current b g v p i z s =
-    let c : Box = scan (b .state .current) b in
+    let c : Box = scan (b .collector .current) b in
     let n : Next b g c = takes-current b g v p i z in
     goes b g v c s n (search) (marks-none b g v c n (omega arith) (omega arith) (omega arith) (omega arith) refl (λ h. refl))
 
 -- ---- 3
 
-step-adds-marked : (b : Box) (g : Ghosts) → Inv b g → b .state .phase ≡ 3 → marked (b .state .tuple) b ≡ true → step b ≡ going (to-phase 2 b) → Stepped b g
+step-adds-marked : (b : Box) (g : Ghosts) → Inv b g → b .collector .phase ≡ 3 → marked (b .collector .tuple) b ≡ true → step b ≡ going (to-phase 2 b) → Stepped b g
 step-adds-marked b g v p t s =
     let c : Box = to-phase 2 b in
     let n : Next b g c = adds-marked b g v p t in
     goes b g v c s n (search) (marks-none b g v c n (omega arith) (omega arith) (omega arith) (omega arith) refl (λ h. refl))
 
-step-adds-unmarked : (b : Box) (g : Ghosts) → Inv b g → b .state .phase ≡ 3 → marked (b .state .tuple) b ≡ false
-    → step b ≡ going (to-phase 2 (shade (b .state .tuple) b)) → Stepped b g
+step-adds-unmarked : (b : Box) (g : Ghosts) → Inv b g → b .collector .phase ≡ 3 → marked (b .collector .tuple) b ≡ false
+    → step b ≡ going (to-phase 2 (shade (b .collector .tuple) b)) → Stepped b g
 step-adds-unmarked b g v p f s =
-    let h : ℕ = b .state .tuple in
+    let h : ℕ = b .collector .tuple in
     let c : Box = to-phase 2 (shade h b) in
     let n : Next b g c = adds-unmarked b g v p f in
     let e : SameHold b (shade h b) = shade-hold h b .0 in
@@ -266,36 +266,36 @@ step-adds-unmarked b g v p f s =
 
 -- ---- 4
 
-step-keeps-last : (b : Box) (g : Ghosts) → Inv b g → b .state .phase ≡ 4 → marked (b .state .tuple) b ≡ true
-    → b .state .src ≡ b .state .dest → swept-after b ≡ b .state .top
+step-keeps-last : (b : Box) (g : Ghosts) → Inv b g → b .collector .phase ≡ 4 → marked (b .collector .tuple) b ≡ true
+    → b .collector .src ≡ b .collector .dest → swept-after b ≡ b .top
     → step b ≡ end-cycle b (kept-last-box b) → Stepped b g
 step-keeps-last b g v p t d e s =
     let n : Next b g (at-rest (kept-last-box b)) = ended-next b g (kept-last-box b) (keeps-last b g v p t d e) in
     ends (kept-last-box b) s n (omega arith) (search) refl (sweep-spared b g v (at-rest (kept-last-box b)) n (omega arith))
 
-step-keeps : (b : Box) (g : Ghosts) → Inv b g → b .state .phase ≡ 4 → marked (b .state .tuple) b ≡ true → b .state .src ≡ b .state .dest → swept-after b ≢ b .state .top
+step-keeps : (b : Box) (g : Ghosts) → Inv b g → b .collector .phase ≡ 4 → marked (b .collector .tuple) b ≡ true → b .collector .src ≡ b .collector .dest → swept-after b ≢ b .top
     → step b ≡ going (kept-box b) → Stepped b g
 step-keeps b g v p t d e s =
     let c : Box = kept-box b in
     let n : Next b g c = keeps b g v p t d e in
     goes b g v c s n (search) (sweeps-track b g v c n (omega arith) (omega arith) refl)
 
-step-starts-move : (b : Box) (g : Ghosts) → Inv b g → b .state .phase ≡ 4 → marked (b .state .tuple) b ≡ true
-    → b .state .src ≢ b .state .dest → step b ≡ going (move-begun-box b) → Stepped b g
+step-starts-move : (b : Box) (g : Ghosts) → Inv b g → b .collector .phase ≡ 4 → marked (b .collector .tuple) b ≡ true
+    → b .collector .src ≢ b .collector .dest → step b ≡ going (move-begun-box b) → Stepped b g
 step-starts-move b g v p t d s =
     let c : Box = move-begun-box b in
     let n : Next b g c = starts-move b g v p t d in
     goes b g v c s n (search) (sweeps-track b g v c n (omega arith) (omega arith) refl)
 
-step-releases : (b : Box) (g : Ghosts) → Inv b g → b .state .phase ≡ 4 → marked (b .state .tuple) b ≡ false
-    → b .state .src + swept-size b < b .state .live → step b ≡ going (released-box b) → Stepped b g
+step-releases : (b : Box) (g : Ghosts) → Inv b g → b .collector .phase ≡ 4 → marked (b .collector .tuple) b ≡ false
+    → b .collector .src + swept-size b < b .collector .live → step b ≡ going (released-box b) → Stepped b g
 step-releases b g v p t l s =
     let c : Box = released-box b in
     let n : Next b g c = releases b g v p t l in
     goes b g v c s n (search) (sweeps-track b g v c n (omega arith) (omega arith) refl)
 
-step-starts-zero : (b : Box) (g : Ghosts) → Inv b g → b .state .phase ≡ 4 → marked (b .state .tuple) b ≡ false
-    → b .state .live ≤ b .state .src + swept-size b → step b ≡ going (zero-begun-box b) → Stepped b g
+step-starts-zero : (b : Box) (g : Ghosts) → Inv b g → b .collector .phase ≡ 4 → marked (b .collector .tuple) b ≡ false
+    → b .collector .live ≤ b .collector .src + swept-size b → step b ≡ going (zero-begun-box b) → Stepped b g
 step-starts-zero b g v p t l s =
     let c : Box = zero-begun-box b in
     let n : Next b g c = starts-zero b g v p t l in
@@ -303,28 +303,28 @@ step-starts-zero b g v p t l s =
 
 -- ---- 5
 
-step-copies-low : (b : Box) (g : Ghosts) → Inv b g → b .state .phase ≡ 5 → b .state .index ≤ b .state .size
-    → b .state .src + b .state .index < b .state .live → step b ≡ going (copied-box 7 b) → Stepped b g
+step-copies-low : (b : Box) (g : Ghosts) → Inv b g → b .collector .phase ≡ 5 → b .collector .index ≤ b .collector .size
+    → b .collector .src + b .collector .index < b .collector .live → step b ≡ going (copied-box 7 b) → Stepped b g
 step-copies-low b g v p i l s =
     let c : Box = copied-box 7 b in
     let n : Next b g c = copies-low b g v p i l in
     goes b g v c s n (search) (sweeps-track b g v c n (omega arith) (omega arith) refl)
 
-step-copies-high : (b : Box) (g : Ghosts) → Inv b g → b .state .phase ≡ 5 → b .state .index ≤ b .state .size
-    → b .state .live ≤ b .state .src + b .state .index → step b ≡ going (copied-box 6 b) → Stepped b g
+step-copies-high : (b : Box) (g : Ghosts) → Inv b g → b .collector .phase ≡ 5 → b .collector .index ≤ b .collector .size
+    → b .collector .live ≤ b .collector .src + b .collector .index → step b ≡ going (copied-box 6 b) → Stepped b g
 step-copies-high b g v p i l s =
     let c : Box = copied-box 6 b in
     let n : Next b g c = copies-high b g v p i l in
     goes b g v c s n (search) (sweeps-track b g v c n (omega arith) (omega arith) refl)
 
-step-moves-on : (b : Box) (g : Ghosts) → Inv b g → b .state .phase ≡ 5 → b .state .size < b .state .index → after b ≢ b .state .top
+step-moves-on : (b : Box) (g : Ghosts) → Inv b g → b .collector .phase ≡ 5 → b .collector .size < b .collector .index → after b ≢ b .top
     → step b ≡ going (moved-box b) → Stepped b g
 step-moves-on b g v p i e s =
     let c : Box = moved-box b in
     let n : Next b g c = moves-on b g v p i e in
     goes b g v c s n (search) (sweeps-track b g v c n (omega arith) (omega arith) refl)
 
-step-ends-move : (b : Box) (g : Ghosts) → Inv b g → b .state .phase ≡ 5 → b .state .size < b .state .index → after b ≡ b .state .top
+step-ends-move : (b : Box) (g : Ghosts) → Inv b g → b .collector .phase ≡ 5 → b .collector .size < b .collector .index → after b ≡ b .top
     → step b ≡ end-cycle b (moved-last-box b) → Stepped b g
 step-ends-move b g v p i e s =
     let n : Next b g (at-rest (moved-last-box b)) = ends-move b g v p i e in
@@ -332,13 +332,13 @@ step-ends-move b g v p i e s =
 
 -- ---- 6 and 7
 
-step-clears : (b : Box) (g : Ghosts) → Inv b g → b .state .phase ≡ 6 → step b ≡ going (cleared-box b) → Stepped b g
+step-clears : (b : Box) (g : Ghosts) → Inv b g → b .collector .phase ≡ 6 → step b ≡ going (cleared-box b) → Stepped b g
 step-clears b g v p s =
     let c : Box = cleared-box b in
     let n : Next b g c = clears b g v p in
     goes b g v c s n (search) (sweeps-track b g v c n (omega arith) (omega arith) refl)
 
-step-writes : (b : Box) (g : Ghosts) → Inv b g → b .state .phase ≡ 7 → step b ≡ going (write-copy b) → Stepped b g
+step-writes : (b : Box) (g : Ghosts) → Inv b g → b .collector .phase ≡ 7 → step b ≡ going (write-copy b) → Stepped b g
 unfolding write-copy
 step-writes b g v p s =
     let c : Box = write-copy b in
@@ -347,14 +347,14 @@ step-writes b g v p s =
 
 -- ---- 8
 
-step-zeroes : (b : Box) (g : Ghosts) → Inv b g → b .state .phase ≡ 8 → b .state .index ≤ b .state .size → step b ≡ going (zero-word b) → Stepped b g
+step-zeroes : (b : Box) (g : Ghosts) → Inv b g → b .collector .phase ≡ 8 → b .collector .index ≤ b .collector .size → step b ≡ going (zero-word b) → Stepped b g
 unfolding zero-word
 step-zeroes b g v p i s =
     let c : Box = zero-word b in
     let n : Next b g c = zeroes b g v p i in
     goes b g v c s n (search) (sweeps-track b g v c n (omega arith) (omega arith) refl)
 
-step-zero-on : (b : Box) (g : Ghosts) → Inv b g → b .state .phase ≡ 8 → b .state .size < b .state .index → after b ≢ b .state .top
+step-zero-on : (b : Box) (g : Ghosts) → Inv b g → b .collector .phase ≡ 8 → b .collector .size < b .collector .index → after b ≢ b .top
     → step b ≡ going (go-on (after b) b) → Stepped b g
 unfolding go-on
 step-zero-on b g v p i e s =
@@ -362,7 +362,7 @@ step-zero-on b g v p i e s =
     let n : Next b g c = zero-on b g v p i e in
     goes b g v c s n (search) (sweeps-track b g v c n (omega arith) (omega arith) refl)
 
-step-zero-ends : (b : Box) (g : Ghosts) → Inv b g → b .state .phase ≡ 8 → b .state .size < b .state .index → after b ≡ b .state .top
+step-zero-ends : (b : Box) (g : Ghosts) → Inv b g → b .collector .phase ≡ 8 → b .collector .size < b .collector .index → after b ≡ b .top
     → step b ≡ end-cycle b (zeroed-last-box b) → Stepped b g
 step-zero-ends b g v p i e s =
     let n : Next b g (at-rest (zeroed-last-box b)) = ended-next b g (zeroed-last-box b) (zero-ends b g v p i e) in

@@ -10,14 +10,15 @@ use mathlib.Core.List.{[]}
 use mathlib.Core.Logic.{_≢_}
 use mathlib.Core.Path.{_≡_, refl, sym, _∙_, ap, subst}
 use native.Mathlib.Omega.{arith}
-use Rattle.memory.specs.declared.kinds.Request.{Request}
-use Rattle.memory.specs.declared.kinds.Request.the-variants.{Getm}
-use Rattle.memory.specs.Limits.{register-count, in-range}
-use Rattle.memory.specs.Box.{Box, Reply, reply, data-word, word-at, tag-of, register, size-of, lengths-are, right-sizes}
-use Rattle.memory.specs.Place.{place, read}
-use Rattle.memory.specs.Open.{opened, opening}
-use Rattle.memory.specs.Request.{hold, same-word, request}
-use Rattle.memory.specs.Collector.{at-rest, unheld, granted, end-cycle, step}
+use Rattle.rules.specs.declared.kinds.Request.{Request}
+use Rattle.rules.specs.declared.kinds.Request.the-variants.{Getm}
+use Rattle.rules.specs.Limits.{register-count, in-range}
+use Rattle.rules.specs.Parts.{Box}
+use Rattle.rules.specs.Box.{Reply, reply, data-word, word-at, tag-of, register, size-of, lengths-are, right-sizes}
+use Rattle.rules.specs.Place.{place, read}
+use Rattle.rules.specs.Open.{opened, opening}
+use Rattle.rules.specs.Request.{hold, same-word, request}
+use Rattle.rules.specs.Collector.{at-rest, unheld, granted, end-cycle, step}
 use Rattle.history.specs.Calls.{RequestInWidth}
 use Rattle.history.proofs.Invariant.Statement.{Ghosts, Inv, Kept}
 use Rattle.history.proofs.Invariant.Resting.{resting}
@@ -75,7 +76,7 @@ step-ended b c g v s = go (cycle-end b c g v)
     go (CycleEnd.ends-free h e) = grown (step b) (at-rest c) 31 g (s ∙ e) v
     go (CycleEnd.ends-held h n t e) = grown (step b) (at-rest c) 33 g (s ∙ e) v
     go (CycleEnd.ends-dropped h n t e i) = grown (step b) (unheld (at-rest c)) 8 g (s ∙ e) i
-    go (CycleEnd.ends-granted h f t e i) = grown (step b) (granted (at-rest c)) 32 (made-ghosts g (c .state .free)) (s ∙ e) i
+    go (CycleEnd.ends-granted h f t e i) = grown (step b) (granted (at-rest c)) 32 (made-ghosts g (c .free)) (s ∙ e) i
 
 -- and its answer: 31, 33, 8 or 32
 end-not-nine : (b : Box) (c : Box) (g : Ghosts) → Inv (at-rest c) g → step b ≡ end-cycle b c → step b .answer ≢ 9
@@ -157,7 +158,7 @@ invariant-request q b g w v = go w (asked q b)
     go w (Asked.sets-nil {r} f h l e) = done e g (register-takes-nil b g v r l)
     go w (Asked.moves {r} {s} f h l u e) = done e g (register-takes-register b g v r s l u)
     go w (Asked.advances {r} {n} f h l x o e) = done e g (register-advances b g v r n l x o)
-    go w (Asked.makes {r} {n} {t} f h l z m x y p e) = done e (made-ghosts g (b .state .free)) (invariant-new-tuple b g v r n t l m x (w .2))
+    go w (Asked.makes {r} {n} {t} f h l z m x y p e) = done e (made-ghosts g (b .free)) (invariant-new-tuple b g v r n t l m x (w .2))
     go w (Asked.loads {r} {s} {k} f h l u t e) = done e g (register-loads b g v r (named s b) (number s k b) l (there-kept b g v s k u t) (t .inside))
     go w (Asked.stores-data {r} {s} {k} f h l u t n e) = done e g (stores-data b g v (named s b) (number s k b) (there-kept b g v s k u t) (t .inside) (register r b) n)
     go w (Asked.stores-late {r} {s} {k} f h l u t n o e) = done e g (stores-late b g v (named s b) (number s k b) (there-kept b g v s k u t) (t .inside) (register r b) (v .contents .roots-kept r l n) o)
@@ -181,7 +182,7 @@ never-nine b g v = (never-nine-step b g v, λ q. never-nine-request q b g v)
 
 -- ---- the words above top
 
-pub words-above-top : (b : Box) (g : Ghosts) → Inv b g → (a : ℕ) → b .state .top ≤ a → word-at a b ≡ data-word 0
+pub words-above-top : (b : Box) (g : Ghosts) → Inv b g → (a : ℕ) → b .top ≤ a → word-at a b ≡ data-word 0
 words-above-top b g v = v .zero-words .above-top
 
 -- ---- the steps of a cycle
@@ -189,7 +190,7 @@ words-above-top b g v = v .zero-words .above-top
 pub left-falls : (b : Box) (g g′ : Ghosts) → Inv b g → Inv (step b .box) g′ → step b .answer ≡ 30 → left (step b .box) g′ < left b g
 left-falls b g g′ v w a = step-left b g v a g′ w
 
-pub left-most : (b : Box) (g : Ghosts) → Inv b g → left b g ≤ 8 * b .state .top + 2
+pub left-most : (b : Box) (g : Ghosts) → Inv b g → left b g ≤ 8 * b .top + 2
 left-most = left-bound
 
 -- the first n single steps of b all answer 30
@@ -206,5 +207,5 @@ steps-below-left (suc n) b g v e =
     omega arith
 
 -- the cycle ends with step 8 top + 2 at the latest, whatever its phase now, if no request comes between
-pub cycle-bound : (b : Box) (g : Ghosts) → Inv b g → (n : ℕ) → GoesOn n b → n < 8 * b .state .top + 2
+pub cycle-bound : (b : Box) (g : Ghosts) → Inv b g → (n : ℕ) → GoesOn n b → n < 8 * b .top + 2
 cycle-bound b g v n e = omega (arith, steps-below-left n b g v e, left-bound b g v)

@@ -5,7 +5,7 @@ use Prim.Native.Nat.{ℕ, _+_, _*_, _≤_}
 use mathlib.Core.List.{List, [], _++_}
 use mathlib.Core.Path.{_≡_, ap}
 use native.Mathlib.Omega.{arith}
-use Rattle.memory.specs.Box.{Box}
+use Rattle.rules.specs.Parts.{Box}
 use Rattle.history.proofs.Invariant.Statement.{Ghosts, Inv, listed, rooms, Scan, Stage, at-rest, finding, scanning, adding, sweeping, reading, clearing, writing, zeroing}
 use Rattle.history.proofs.Lists.Laid.{laid-rooms}
 use Rattle.history.proofs.Lists.Sums.{total, unmarked-total, total-none, total-cons, total-append, total-add, total-le, total-rooms, total-marked-members}
@@ -23,7 +23,7 @@ left-positive b g v = by-stage (v .stage)
     by-stage (scanning p u s c k) = omega (arith, left-scan b g p)
     by-stage (adding p u s c t k) = omega (arith, left-add b g p)
     by-stage (sweeping p l m w a z hs e) =
-        omega (arith, left-sweep b g p, ap (λ (ks : List ℕ). total 3 5 b ks) e, total-cons 3 5 b (b .state .tuple) hs)
+        omega (arith, left-sweep b g p, ap (λ (ks : List ℕ). total 3 5 b ks) e, total-cons 3 5 b (b .collector .tuple) hs)
     by-stage (reading p m i z) = omega (arith, left-read b g p)
     by-stage (clearing p m i z) = omega (arith, left-clear b g p)
     by-stage (writing p m i z) = omega (arith, left-write b g p)
@@ -32,8 +32,8 @@ left-positive b g v = by-stage (v .stage)
 -- ---- at most 8 top + 2
 
 -- what lies ahead takes the words from base to top
-ahead-rooms : (b : Box) (g : Ghosts) → Inv b g → g .plan .base + rooms b (g .plan .ahead) ≡ b .state .top
-ahead-rooms b g v = laid-rooms b (g .plan .base) (g .plan .ahead) (b .state .top) (v .layout .ahead-laid)
+ahead-rooms : (b : Box) (g : Ghosts) → Inv b g → g .plan .base + rooms b (g .plan .ahead) ≡ b .top
+ahead-rooms b g v = laid-rooms b (g .plan .base) (g .plan .ahead) (b .top) (v .layout .ahead-laid)
 
 -- the tuples to be marked and those listed
 listed-total : (b : Box) (g : Ghosts) → Inv b g
@@ -47,7 +47,7 @@ listed-total b g v =
       total-marked-members 2 3 b (listed (g .scans)) (g .plan .ahead) (v .marks .listed-distinct) (v .marks .listed-ahead) (v .marks .listed-marked),
     )
 
-marking-bound : (b : Box) (g : Ghosts) → Inv b g → marking-left b g + total 2 2 b (g .scans .gray) ≤ 8 * b .state .top + 1
+marking-bound : (b : Box) (g : Ghosts) → Inv b g → marking-left b g + total 2 2 b (g .scans .gray) ≤ 8 * b .top + 1
 unfolding marking-left
 marking-bound b g v =
     omega (
@@ -59,18 +59,18 @@ marking-bound b g v =
     )
 
 -- the tuple under the scan
-gray-total : (b : Box) (g : Ghosts) (s : ℕ) → Scan b g s → total 2 2 b (g .scans .gray) ≡ 2 * b .state .size + 2
+gray-total : (b : Box) (g : Ghosts) (s : ℕ) → Scan b g s → total 2 2 b (g .scans .gray) ≡ 2 * b .collector .size + 2
 gray-total b g s c =
     omega (arith, ap (λ (ks : List ℕ). total 2 2 b ks) (c .gray-is), total-cons 2 2 b s [], total-none 2 2 b, c .size-is)
 
 -- the tuples ahead, while they are swept
-sweep-bound : (b : Box) (g : Ghosts) → Inv b g → total 3 5 b (g .plan .ahead) + 8 * g .plan .base ≤ 8 * b .state .top
+sweep-bound : (b : Box) (g : Ghosts) → Inv b g → total 3 5 b (g .plan .ahead) + 8 * g .plan .base ≤ 8 * b .top
 sweep-bound b g v = omega (arith, total-rooms 3 5 8 b (g .plan .ahead) (omega arith) (omega arith), ahead-rooms b g v)
 
-pub left-bound : (b : Box) (g : Ghosts) → Inv b g → left b g ≤ 8 * b .state .top + 2
+pub left-bound : (b : Box) (g : Ghosts) → Inv b g → left b g ≤ 8 * b .top + 2
 left-bound b g v = by-stage (v .stage)
   where
-    by-stage : Stage b g → left b g ≤ 8 * b .state .top + 2
+    by-stage : Stage b g → left b g ≤ 8 * b .top + 2
     by-stage (at-rest p u l n) =
         omega (arith, left-rest b g p, total-rooms 5 8 8 b (g .plan .ahead) (omega arith) (omega arith), ahead-rooms b g v)
     by-stage (finding p u m n) = omega (arith, left-next b g p, marking-bound b g v)
@@ -83,5 +83,5 @@ left-bound b g v = by-stage (v .stage)
     by-stage (zeroing p l m w a d i z) = omega (arith, left-zero b g p, sweep-bound b g v)
 
 -- and so at most 8 M + 2
-pub left-bound-m : (b : Box) (g : Ghosts) → Inv b g → left b g ≤ 8 * b .state .m + 2
+pub left-bound-m : (b : Box) (g : Ghosts) → Inv b g → left b g ≤ 8 * b .m + 2
 left-bound-m b g v = omega (arith, left-bound b g v, v .layout .top-fits)

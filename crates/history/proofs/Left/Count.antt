@@ -5,7 +5,8 @@ use Prim.Native.Nat.{ℕ, zero, suc, _+_, _*_, _-_}
 use mathlib.Core.List.{List, [], _∷_}
 use mathlib.Core.Path.{_≡_, ap, _∙_}
 use native.Mathlib.Omega.{arith}
-use Rattle.memory.specs.Box.{Box, size-of, marked}
+use Rattle.rules.specs.Parts.{Box}
+use Rattle.rules.specs.Box.{size-of, marked}
 use Rattle.history.proofs.Invariant.Statement.{Ghosts}
 use Rattle.history.proofs.Lists.Sums.{total, unmarked-total, total-none, total-cons, total-frame, unmarked-total-frame}
 
@@ -13,7 +14,7 @@ use Rattle.history.proofs.Lists.Sums.{total, unmarked-total, total-none
 
 -- the words from index up to the end of the tuple under the scan, being moved or being zeroed
 abbrev pub words-left : Box → ℕ
-words-left b = b .state .size + 1 - b .state .index
+words-left b = b .collector .size + 1 - b .collector .index
 
 -- marking: each tuple ahead is swept, each unmarked one may be marked and scanned, and each listed one is scanned
 unfoldable pub marking-left : Box → Ghosts → ℕ
@@ -34,43 +35,43 @@ left-in (suc (suc (suc (suc (suc (suc (suc (suc zero)))))))) b g = total 3 5 b (
 left-in (suc (suc (suc (suc (suc (suc (suc (suc (suc p))))))))) b g = 0
 
 unfoldable pub left : Box → Ghosts → ℕ
-left b g = left-in (b .state .phase) b g
+left b g = left-in (b .collector .phase) b g
 
 -- ---- the count at a phase
 
-pub left-rest : (b : Box) (g : Ghosts) → b .state .phase ≡ 0 → left b g ≡ 2 + total 5 8 b (g .plan .ahead)
+pub left-rest : (b : Box) (g : Ghosts) → b .collector .phase ≡ 0 → left b g ≡ 2 + total 5 8 b (g .plan .ahead)
 unfolding left left-in
 left-rest b g e = ap (λ (p : ℕ). left-in p b g) e
 
-pub left-next : (b : Box) (g : Ghosts) → b .state .phase ≡ 1 → left b g ≡ marking-left b g
+pub left-next : (b : Box) (g : Ghosts) → b .collector .phase ≡ 1 → left b g ≡ marking-left b g
 unfolding left left-in
 left-next b g e = ap (λ (p : ℕ). left-in p b g) e
 
-pub left-scan : (b : Box) (g : Ghosts) → b .state .phase ≡ 2 → left b g ≡ marking-left b g + (2 * words-left b + 1)
+pub left-scan : (b : Box) (g : Ghosts) → b .collector .phase ≡ 2 → left b g ≡ marking-left b g + (2 * words-left b + 1)
 unfolding left left-in
 left-scan b g e = ap (λ (p : ℕ). left-in p b g) e
 
-pub left-add : (b : Box) (g : Ghosts) → b .state .phase ≡ 3 → left b g ≡ marking-left b g + (2 * words-left b + 2)
+pub left-add : (b : Box) (g : Ghosts) → b .collector .phase ≡ 3 → left b g ≡ marking-left b g + (2 * words-left b + 2)
 unfolding left left-in
 left-add b g e = ap (λ (p : ℕ). left-in p b g) e
 
-pub left-sweep : (b : Box) (g : Ghosts) → b .state .phase ≡ 4 → left b g ≡ total 3 5 b (g .plan .ahead)
+pub left-sweep : (b : Box) (g : Ghosts) → b .collector .phase ≡ 4 → left b g ≡ total 3 5 b (g .plan .ahead)
 unfolding left left-in
 left-sweep b g e = ap (λ (p : ℕ). left-in p b g) e
 
-pub left-read : (b : Box) (g : Ghosts) → b .state .phase ≡ 5 → left b g ≡ total 3 5 b (g .plan .ahead) + (3 * words-left b + 1)
+pub left-read : (b : Box) (g : Ghosts) → b .collector .phase ≡ 5 → left b g ≡ total 3 5 b (g .plan .ahead) + (3 * words-left b + 1)
 unfolding left left-in
 left-read b g e = ap (λ (p : ℕ). left-in p b g) e
 
-pub left-clear : (b : Box) (g : Ghosts) → b .state .phase ≡ 6 → left b g ≡ total 3 5 b (g .plan .ahead) + 3 * words-left b
+pub left-clear : (b : Box) (g : Ghosts) → b .collector .phase ≡ 6 → left b g ≡ total 3 5 b (g .plan .ahead) + 3 * words-left b
 unfolding left left-in
 left-clear b g e = ap (λ (p : ℕ). left-in p b g) e
 
-pub left-write : (b : Box) (g : Ghosts) → b .state .phase ≡ 7 → left b g ≡ total 3 5 b (g .plan .ahead) + (3 * words-left b - 1)
+pub left-write : (b : Box) (g : Ghosts) → b .collector .phase ≡ 7 → left b g ≡ total 3 5 b (g .plan .ahead) + (3 * words-left b - 1)
 unfolding left left-in
 left-write b g e = ap (λ (p : ℕ). left-in p b g) e
 
-pub left-zero : (b : Box) (g : Ghosts) → b .state .phase ≡ 8 → left b g ≡ total 3 5 b (g .plan .ahead) + (words-left b + 1)
+pub left-zero : (b : Box) (g : Ghosts) → b .collector .phase ≡ 8 → left b g ≡ total 3 5 b (g .plan .ahead) + (words-left b + 1)
 unfolding left left-in
 left-zero b g e = ap (λ (p : ℕ). left-in p b g) e
 

@@ -7,7 +7,8 @@ use mathlib.Core.List.{List, [], _∷_}
 use mathlib.Core.Logic.{_≢_, _⊎_, inl, inr}
 use mathlib.Core.Path.{_≡_, sym, ap, _∙_}
 use native.Mathlib.Omega.{arith}
-use Rattle.memory.specs.Box.{Box, size-of, marked}
+use Rattle.rules.specs.Parts.{Box}
+use Rattle.rules.specs.Box.{size-of, marked}
 use Rattle.history.specs.Agreement.{Member, Distinct}
 use Rattle.history.proofs.Invariant.Statement.{Ghosts}
 use Rattle.history.proofs.Lists.Sums.{unmarked-total, total-add, unmarked-total-le, unmarked-total-mark}
@@ -36,13 +37,13 @@ pub record SameLists (g g′ : Ghosts) : Type 0 where
 
 -- the same place in the same tuple, or one word on
 pub record SamePlace (b c : Box) : Type 0 where
-  pub size : c .state .size ≡ b .state .size
-  pub index : c .state .index ≡ b .state .index
+  pub size : c .collector .size ≡ b .collector .size
+  pub index : c .collector .index ≡ b .collector .index
 
 pub record OneOn (b c : Box) : Type 0 where
-  pub size : c .state .size ≡ b .state .size
-  pub index : c .state .index ≡ b .state .index + 1
-  pub within : b .state .index ≤ b .state .size
+  pub size : c .collector .size ≡ b .collector .size
+  pub index : c .collector .index ≡ b .collector .index + 1
+  pub within : b .collector .index ≤ b .collector .size
 
 -- a tuple ahead is marked, and perhaps listed
 pub record Shaded (b : Box) (g : Ghosts) (c : Box) (g′ : Ghosts) (h : ℕ) : Type 0 where
@@ -57,7 +58,7 @@ pub record Shaded (b : Box) (g : Ghosts) (c : Box) (g′ : Ghosts) (h : ℕ) : T
 
 -- ---- 0
 
-pub falls-rest : (b : Box) (g : Ghosts) (c : Box) (g′ : Ghosts) → b .state .phase ≡ 0 → c .state .phase ≡ 1
+pub falls-rest : (b : Box) (g : Ghosts) (c : Box) (g′ : Ghosts) → b .collector .phase ≡ 0 → c .collector .phase ≡ 1
     → SameAhead b g c g′ → g′ .scans .nexts ≡ [] → g′ .scans .currents ≡ [] → left c g′ < left b g
 unfolding marking-left
 falls-rest b g c g′ p q s n m =
@@ -87,8 +88,8 @@ marking-same b g c g′ s l =
     )
 
 -- the first of the next list is taken to scan, and the rest becomes current
-pub falls-takes-next : (b : Box) (g : Ghosts) (c : Box) (g′ : Ghosts) (h : ℕ) → b .state .phase ≡ 1 → c .state .phase ≡ 2 → SameMarking b g c g′
-    → c .state .size ≡ size-of h b → c .state .index ≡ 1 → g .scans .nexts ≡ h ∷ g′ .scans .currents → g′ .scans .nexts ≡ [] → left c g′ < left b g
+pub falls-takes-next : (b : Box) (g : Ghosts) (c : Box) (g′ : Ghosts) (h : ℕ) → b .collector .phase ≡ 1 → c .collector .phase ≡ 2 → SameMarking b g c g′
+    → c .collector .size ≡ size-of h b → c .collector .index ≡ 1 → g .scans .nexts ≡ h ∷ g′ .scans .currents → g′ .scans .nexts ≡ [] → left c g′ < left b g
 unfolding marking-left
 falls-takes-next b g c g′ h p q s z i l n =
     omega (
@@ -130,11 +131,11 @@ marking-shaded b g c g′ h s = by-list (s .nexts)
           total-same 2 2 b c (g .scans .currents) (g′ .scans .currents) (s .same .sizes) (s .currents),
         )
 
-pub falls-shades-root : (b : Box) (g : Ghosts) (c : Box) (g′ : Ghosts) (h : ℕ) → b .state .phase ≡ 1 → c .state .phase ≡ 1
+pub falls-shades-root : (b : Box) (g : Ghosts) (c : Box) (g′ : Ghosts) (h : ℕ) → b .collector .phase ≡ 1 → c .collector .phase ≡ 1
     → Shaded b g c g′ h → left c g′ < left b g
 falls-shades-root b g c g′ h p q s = omega (arith, left-next b g p, left-next c g′ q, marking-shaded b g c g′ h s)
 
-pub falls-begins-sweep : (b : Box) (g : Ghosts) (c : Box) (g′ : Ghosts) → b .state .phase ≡ 1 → c .state .phase ≡ 4
+pub falls-begins-sweep : (b : Box) (g : Ghosts) (c : Box) (g′ : Ghosts) → b .collector .phase ≡ 1 → c .collector .phase ≡ 4
     → SameAhead b g c g′ → left c g′ < left b g
 unfolding marking-left
 falls-begins-sweep b g c g′ p q s =
@@ -148,22 +149,22 @@ falls-begins-sweep b g c g′ p q s =
 -- ---- 2
 
 -- a word is passed over
-pub falls-scans-data : (b : Box) (g : Ghosts) (c : Box) (g′ : Ghosts) → b .state .phase ≡ 2 → c .state .phase ≡ 2
+pub falls-scans-data : (b : Box) (g : Ghosts) (c : Box) (g′ : Ghosts) → b .collector .phase ≡ 2 → c .collector .phase ≡ 2
     → SameMarking b g c g′ → SameLists g g′ → OneOn b c → left c g′ < left b g
 falls-scans-data b g c g′ p q s l o = omega (arith, left-scan b g p, left-scan c g′ q, marking-same b g c g′ s l)
 
 -- a word names a tuple
-pub falls-scans-pointer : (b : Box) (g : Ghosts) (c : Box) (g′ : Ghosts) → b .state .phase ≡ 2 → c .state .phase ≡ 3
+pub falls-scans-pointer : (b : Box) (g : Ghosts) (c : Box) (g′ : Ghosts) → b .collector .phase ≡ 2 → c .collector .phase ≡ 3
     → SameMarking b g c g′ → SameLists g g′ → OneOn b c → left c g′ < left b g
 falls-scans-pointer b g c g′ p q s l o = omega (arith, left-scan b g p, left-add c g′ q, marking-same b g c g′ s l)
 
-pub falls-scan-ends : (b : Box) (g : Ghosts) (c : Box) (g′ : Ghosts) → b .state .phase ≡ 2 → c .state .phase ≡ 1
+pub falls-scan-ends : (b : Box) (g : Ghosts) (c : Box) (g′ : Ghosts) → b .collector .phase ≡ 2 → c .collector .phase ≡ 1
     → SameMarking b g c g′ → SameLists g g′ → left c g′ < left b g
 falls-scan-ends b g c g′ p q s l = omega (arith, left-scan b g p, left-next c g′ q, marking-same b g c g′ s l)
 
 -- the first of the current list is taken to scan
-pub falls-takes-current : (b : Box) (g : Ghosts) (c : Box) (g′ : Ghosts) (h : ℕ) → b .state .phase ≡ 2 → c .state .phase ≡ 2 → SameMarking b g c g′
-    → c .state .size ≡ size-of h b → c .state .index ≡ 1 → g .scans .currents ≡ h ∷ g′ .scans .currents → g′ .scans .nexts ≡ g .scans .nexts
+pub falls-takes-current : (b : Box) (g : Ghosts) (c : Box) (g′ : Ghosts) (h : ℕ) → b .collector .phase ≡ 2 → c .collector .phase ≡ 2 → SameMarking b g c g′
+    → c .collector .size ≡ size-of h b → c .collector .index ≡ 1 → g .scans .currents ≡ h ∷ g′ .scans .currents → g′ .scans .nexts ≡ g .scans .nexts
     → left c g′ < left b g
 unfolding marking-left
 falls-takes-current b g c g′ h p q s z i l n =
@@ -179,70 +180,70 @@ falls-takes-current b g c g′ h p q s z i l n =
 
 -- ---- 3
 
-pub falls-adds-marked : (b : Box) (g : Ghosts) (c : Box) (g′ : Ghosts) → b .state .phase ≡ 3 → c .state .phase ≡ 2
+pub falls-adds-marked : (b : Box) (g : Ghosts) (c : Box) (g′ : Ghosts) → b .collector .phase ≡ 3 → c .collector .phase ≡ 2
     → SameMarking b g c g′ → SameLists g g′ → SamePlace b c → left c g′ < left b g
 falls-adds-marked b g c g′ p q s l o = omega (arith, left-add b g p, left-scan c g′ q, marking-same b g c g′ s l)
 
-pub falls-adds-unmarked : (b : Box) (g : Ghosts) (c : Box) (g′ : Ghosts) (h : ℕ) → b .state .phase ≡ 3 → c .state .phase ≡ 2
+pub falls-adds-unmarked : (b : Box) (g : Ghosts) (c : Box) (g′ : Ghosts) (h : ℕ) → b .collector .phase ≡ 3 → c .collector .phase ≡ 2
     → Shaded b g c g′ h → SamePlace b c → left c g′ < left b g
 falls-adds-unmarked b g c g′ h p q s o = omega (arith, left-add b g p, left-scan c g′ q, marking-shaded b g c g′ h s)
 
 -- ---- 4
 
 -- a tuple is kept in place or released, and the sweep goes on behind it
-pub falls-sweeps-on : (b : Box) (g : Ghosts) (c : Box) (g′ : Ghosts) (h : ℕ) → b .state .phase ≡ 4 → c .state .phase ≡ 4
+pub falls-sweeps-on : (b : Box) (g : Ghosts) (c : Box) (g′ : Ghosts) (h : ℕ) → b .collector .phase ≡ 4 → c .collector .phase ≡ 4
     → FirstGone b g c g′ h → left c g′ < left b g
 falls-sweeps-on b g c g′ h p q f =
     omega (arith, left-sweep b g p, left-sweep c g′ q, total-first 3 5 b c h (g .plan .ahead) (g′ .plan .ahead) (f .sizes) (f .ahead))
 
-pub falls-starts-move : (b : Box) (g : Ghosts) (c : Box) (g′ : Ghosts) (h : ℕ) → b .state .phase ≡ 4 → c .state .phase ≡ 5
-    → FirstGone b g c g′ h → c .state .size ≡ size-of h b → left c g′ < left b g
+pub falls-starts-move : (b : Box) (g : Ghosts) (c : Box) (g′ : Ghosts) (h : ℕ) → b .collector .phase ≡ 4 → c .collector .phase ≡ 5
+    → FirstGone b g c g′ h → c .collector .size ≡ size-of h b → left c g′ < left b g
 falls-starts-move b g c g′ h p q f z =
     omega (arith, left-sweep b g p, left-read c g′ q, total-first 3 5 b c h (g .plan .ahead) (g′ .plan .ahead) (f .sizes) (f .ahead))
 
-pub falls-starts-zero : (b : Box) (g : Ghosts) (c : Box) (g′ : Ghosts) (h : ℕ) → b .state .phase ≡ 4 → c .state .phase ≡ 8
-    → FirstGone b g c g′ h → c .state .size ≡ size-of h b → left c g′ < left b g
+pub falls-starts-zero : (b : Box) (g : Ghosts) (c : Box) (g′ : Ghosts) (h : ℕ) → b .collector .phase ≡ 4 → c .collector .phase ≡ 8
+    → FirstGone b g c g′ h → c .collector .size ≡ size-of h b → left c g′ < left b g
 falls-starts-zero b g c g′ h p q f z =
     omega (arith, left-sweep b g p, left-zero c g′ q, total-first 3 5 b c h (g .plan .ahead) (g′ .plan .ahead) (f .sizes) (f .ahead))
 
 -- ---- 5
 
-pub falls-copies-high : (b : Box) (g : Ghosts) (c : Box) (g′ : Ghosts) → b .state .phase ≡ 5 → c .state .phase ≡ 6
+pub falls-copies-high : (b : Box) (g : Ghosts) (c : Box) (g′ : Ghosts) → b .collector .phase ≡ 5 → c .collector .phase ≡ 6
     → SameAhead b g c g′ → SamePlace b c → left c g′ < left b g
 falls-copies-high b g c g′ p q s o =
     omega (arith, left-read b g p, left-clear c g′ q, total-same 3 5 b c (g .plan .ahead) (g′ .plan .ahead) (s .sizes) (s .ahead))
 
-pub falls-copies-low : (b : Box) (g : Ghosts) (c : Box) (g′ : Ghosts) → b .state .phase ≡ 5 → c .state .phase ≡ 7
+pub falls-copies-low : (b : Box) (g : Ghosts) (c : Box) (g′ : Ghosts) → b .collector .phase ≡ 5 → c .collector .phase ≡ 7
     → SameAhead b g c g′ → SamePlace b c → left c g′ < left b g
 falls-copies-low b g c g′ p q s o =
     omega (arith, left-read b g p, left-write c g′ q, total-same 3 5 b c (g .plan .ahead) (g′ .plan .ahead) (s .sizes) (s .ahead))
 
 -- the tuple has been moved, and the sweep goes on behind where it was
-pub falls-moves-on : (b : Box) (g : Ghosts) (c : Box) (g′ : Ghosts) → b .state .phase ≡ 5 → c .state .phase ≡ 4
+pub falls-moves-on : (b : Box) (g : Ghosts) (c : Box) (g′ : Ghosts) → b .collector .phase ≡ 5 → c .collector .phase ≡ 4
     → SameAhead b g c g′ → left c g′ < left b g
 falls-moves-on b g c g′ p q s =
     omega (arith, left-read b g p, left-sweep c g′ q, total-same 3 5 b c (g .plan .ahead) (g′ .plan .ahead) (s .sizes) (s .ahead))
 
 -- ---- 6 and 7
 
-pub falls-clears : (b : Box) (g : Ghosts) (c : Box) (g′ : Ghosts) → b .state .phase ≡ 6 → c .state .phase ≡ 7
-    → SameAhead b g c g′ → SamePlace b c → b .state .index ≤ b .state .size → left c g′ < left b g
+pub falls-clears : (b : Box) (g : Ghosts) (c : Box) (g′ : Ghosts) → b .collector .phase ≡ 6 → c .collector .phase ≡ 7
+    → SameAhead b g c g′ → SamePlace b c → b .collector .index ≤ b .collector .size → left c g′ < left b g
 falls-clears b g c g′ p q s o i =
     omega (arith, left-clear b g p, left-write c g′ q, total-same 3 5 b c (g .plan .ahead) (g′ .plan .ahead) (s .sizes) (s .ahead))
 
-pub falls-writes : (b : Box) (g : Ghosts) (c : Box) (g′ : Ghosts) → b .state .phase ≡ 7 → c .state .phase ≡ 5
+pub falls-writes : (b : Box) (g : Ghosts) (c : Box) (g′ : Ghosts) → b .collector .phase ≡ 7 → c .collector .phase ≡ 5
     → SameAhead b g c g′ → OneOn b c → left c g′ < left b g
 falls-writes b g c g′ p q s o =
     omega (arith, left-write b g p, left-read c g′ q, total-same 3 5 b c (g .plan .ahead) (g′ .plan .ahead) (s .sizes) (s .ahead))
 
 -- ---- 8
 
-pub falls-zeroes : (b : Box) (g : Ghosts) (c : Box) (g′ : Ghosts) → b .state .phase ≡ 8 → c .state .phase ≡ 8
+pub falls-zeroes : (b : Box) (g : Ghosts) (c : Box) (g′ : Ghosts) → b .collector .phase ≡ 8 → c .collector .phase ≡ 8
     → SameAhead b g c g′ → OneOn b c → left c g′ < left b g
 falls-zeroes b g c g′ p q s o =
     omega (arith, left-zero b g p, left-zero c g′ q, total-same 3 5 b c (g .plan .ahead) (g′ .plan .ahead) (s .sizes) (s .ahead))
 
-pub falls-zero-on : (b : Box) (g : Ghosts) (c : Box) (g′ : Ghosts) → b .state .phase ≡ 8 → c .state .phase ≡ 4
+pub falls-zero-on : (b : Box) (g : Ghosts) (c : Box) (g′ : Ghosts) → b .collector .phase ≡ 8 → c .collector .phase ≡ 4
     → SameAhead b g c g′ → left c g′ < left b g
 falls-zero-on b g c g′ p q s =
     omega (arith, left-zero b g p, left-sweep c g′ q, total-same 3 5 b c (g .plan .ahead) (g′ .plan .ahead) (s .sizes) (s .ahead))

@@ -4,8 +4,8 @@
 use Prim.Native.Nat.{ℕ, zero, suc, _≤_}
 use mathlib.Core.Path.{_≡_, refl, ap, _∙_}
 use native.Mathlib.Omega.{arith}
-use Rattle.memory.specs.Box.{Box}
-use Rattle.memory.specs.Request.{hold}
+use Rattle.rules.specs.Parts.{Box}
+use Rattle.rules.specs.Request.{hold}
 use Rattle.history.proofs.Invariant.Statement.{Ghosts, Inv, Stage, at-rest, finding, scanning, adding, sweeping, reading, clearing, writing, zeroing}
 use Rattle.history.proofs.Left.Count.{left, left-in, total-same}
 use Rattle.history.proofs.Left.Falls.{SameMarking, SameLists, SamePlace, marking-same}
@@ -27,15 +27,15 @@ left-in-same (suc (suc (suc (suc (suc (suc (suc (suc zero)))))))) b g c g′ s l
 left-in-same (suc (suc (suc (suc (suc (suc (suc (suc (suc p))))))))) b g c g′ s l o = refl
 
 -- where the tuples ahead begin
-base-same : (b : Box) (g : Ghosts) (c : Box) (g′ : Ghosts) → Inv b g → Inv c g′ → c .state .phase ≡ b .state .phase
-    → c .state .src ≡ b .state .src → c .state .size ≡ b .state .size
+base-same : (b : Box) (g : Ghosts) (c : Box) (g′ : Ghosts) → Inv b g → Inv c g′ → c .collector .phase ≡ b .collector .phase
+    → c .collector .src ≡ b .collector .src → c .collector .size ≡ b .collector .size
     → g′ .plan .base ≡ g .plan .base
 base-same b g c g′ v w p e z = by-stage (v .stage)
   where
-    early : b .state .phase ≤ 3 → g′ .plan .base ≡ g .plan .base
+    early : b .collector .phase ≤ 3 → g′ .plan .base ≡ g .plan .base
     early l = omega (arith, base-unswept b g v l, base-unswept c g′ w (omega arith))
 
-    late : 5 ≤ b .state .phase → g′ .plan .base ≡ g .plan .base
+    late : 5 ≤ b .collector .phase → g′ .plan .base ≡ g .plan .base
     late l = omega (arith, base-behind b g v l, base-behind c g′ w (omega arith))
 
     by-stage : Stage b g → g′ .plan .base ≡ g .plan .base
@@ -50,13 +50,13 @@ base-same b g c g′ v w p e z = by-stage (v .stage)
     by-stage (zeroing q k m n a d i y) = late (omega arith)
 
 pub left-same : (b : Box) (g : Ghosts) (c : Box) (g′ : Ghosts) → Inv b g → Inv c g′ → SameEntries b c → SameHeads b c → SamePlace b c
-    → c .state .phase ≡ b .state .phase → c .state .src ≡ b .state .src → left c g′ ≡ left b g
+    → c .collector .phase ≡ b .collector .phase → c .collector .src ≡ b .collector .src → left c g′ ≡ left b g
 unfolding left
 left-same b g c g′ v w s h o p e =
     let columns = same-columns b c (g .plan .base) (g .plan .ahead) (s .heap .addresses-are) (s .heap .sizes-are) (s .heap .words-are) (s .heap .flags-are) (s .heap .top-is) in
     let ahead : g′ .plan .ahead ≡ g .plan .ahead = ahead-carried b c g′ (g .plan .base) (g .plan .ahead) (v .layout .ahead-laid) columns w (base-same b g c g′ v w p e (o .size)) in
     ap (λ (n : ℕ). left-in n c g′) p ∙
-    left-in-same (b .state .phase) b g c g′ (record {
+    left-in-same (b .collector .phase) b g c g′ (record {
       same = record { sizes = same-sizes b c (s .heap); ahead = ahead };
       marks = same-marks b c s;
     }) (same-lists b g c g′ v w s h) o

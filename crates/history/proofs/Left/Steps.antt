@@ -4,10 +4,10 @@ use Prim.Native.Nat.{_<_}
 use mathlib.Core.Logic.{_≢_}
 use mathlib.Core.Path.{_≡_, refl, sym, ap, _∙_, subst}
 use native.Mathlib.Omega.{arith}
-use Rattle.memory.specs.State.{with-next}
-use Rattle.memory.specs.Box.{Box, Reply, reply, handle-of, with-state, register}
-use Rattle.memory.specs.Place.{shade}
-use Rattle.memory.specs.Collector.{going, to-phase, after, at-rest, unheld, granted, end-cycle, scan, begin-sweep, go-on, settle-move, write-copy, zero-word, step}
+use Rattle.rules.specs.Parts.{Box, with-next}
+use Rattle.rules.specs.Box.{Reply, reply, handle-of, register}
+use Rattle.rules.specs.Place.{shade}
+use Rattle.rules.specs.Collector.{going, to-phase, after, at-rest, unheld, granted, end-cycle, scan, begin-sweep, go-on, settle-move, write-copy, zero-word, step}
 use Rattle.history.proofs.Invariant.Statement.{Ghosts, Inv}
 use Rattle.history.proofs.View.Step.{Step, unsound, nine, rests, takes-next, shades-root, ends-empty, begins-sweep, scans-data, scans-pointer, scan-ends, takes-current, adds-marked, adds-unmarked, keeps-last, keeps, starts-move, releases, starts-zero, copies-low, copies-high, ends-move, moves-on, clears, writes, zeroes, zero-ends, zero-on, view}
 use Rattle.history.proofs.View.End.{Ending, ends-free, ends-held, ends-dropped, ends-granted, ends-lost, ending}
@@ -51,7 +51,7 @@ step-left b g v a g′ w = by-view (view b)
     by-view (unsound s e) = lost e
     by-view (nine s r e) = lost e
     by-view (rests s p e) = leaves (rested-box b) e (λ x. left-rests b g (rested-box b) g′ v x p refl (search) refl refl)
-    by-view (takes-next s p n t e) = leaves (scan (b .state .next) (with-state (with-next 0 (b .state)) b)) e (λ x. fewer-takes-next b g g′ v p n x)
+    by-view (takes-next s p n t e) = leaves (scan (b .collector .next) (with-next 0 b)) e (λ x. fewer-takes-next b g g′ v p n x)
     by-view (shades-root s p n r l t y f m e) = leaves (shade (handle-of (register r b)) b) e (λ x. fewer-shades-root b g g′ v p r l t f x)
     by-view (ends-empty s p n r t e) = ended b e
     by-view (begins-sweep s p n r t e) = leaves (begin-sweep b) e (λ x. fewer-begins-sweep b g g′ v p x)
@@ -66,9 +66,9 @@ step-left b g v a g′ w = by-view (view b)
       within = i;
     }))
     by-view (scan-ends s p i c e) = leaves (to-phase 1 b) e (λ x. fewer-scan-ends b g g′ v p x)
-    by-view (takes-current s p i n t e) = leaves (scan (b .state .current) b) e (λ x. fewer-takes-current b g g′ v p n x)
+    by-view (takes-current s p i n t e) = leaves (scan (b .collector .current) b) e (λ x. fewer-takes-current b g g′ v p n x)
     by-view (adds-marked s p t m e) = leaves (to-phase 2 b) e (λ x. fewer-adds-marked b g g′ v p x)
-    by-view (adds-unmarked s p t m l e) = leaves (to-phase 2 (shade (b .state .tuple) b)) e (λ x. fewer-adds-unmarked b g g′ v p m x)
+    by-view (adds-unmarked s p t m l e) = leaves (to-phase 2 (shade (b .collector .tuple) b)) e (λ x. fewer-adds-unmarked b g g′ v p m x)
     by-view (keeps-last s p t l m d n e) = ended (kept-last-box b) e
     by-view (keeps s p t l m d n k e) = leaves (kept-box b) e (λ x. left-sweeps-on b g (kept-box b) g′ v x p refl (search) refl)
     by-view (starts-move s p t l m d e) = leaves (move-begun-box b) e (λ x. left-starts-move b g (move-begun-box b) g′ v x p refl (search) refl refl)

@@ -8,7 +8,8 @@ use mathlib.Core.Logic.{_≢_, inl, inr}
 use mathlib.Core.Path.{_≡_, refl, sym, ap, _∙_, subst}
 use native.Mathlib.Nat.{add-mul, mul-le-mul-right, mul-add, mul-one}
 use native.Mathlib.Omega.{arith}
-use Rattle.memory.specs.Box.{Box, size-of, marked}
+use Rattle.rules.specs.Parts.{Box}
+use Rattle.rules.specs.Box.{size-of, marked}
 use Rattle.history.specs.Agreement.{Member, Distinct}
 use Rattle.history.proofs.Invariant.Statement.{rooms}
 use Rattle.history.proofs.Lists.Handles.{Perm, perm-nil, perm-cons, perm-swap, perm-trans, perm-refl, perm-member, member-differs}

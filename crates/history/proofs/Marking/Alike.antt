@@ -7,8 +7,8 @@ use mathlib.Core.List.{List, []}
 use mathlib.Core.Path.{_≡_, refl, sym, _∙_, ap, ap₂, subst}
 use native.Mathlib.Omega.{arith}
 use lib.ListN.{length, getD}
-use Rattle.memory.specs.declared.state.State.{State}
-use Rattle.memory.specs.Box.{Box, Word, handle-of, names-tuple, with-state, word-at, register, address, size-of, marked, deep}
+use Rattle.rules.specs.Parts.{Collector, Hold, Word, Box, with-collector, with-hold}
+use Rattle.rules.specs.Box.{handle-of, names-tuple, word-at, register, address, size-of, marked, deep}
 use Rattle.history.specs.Agreement.{Member, Distinct}
 use Rattle.history.proofs.Invariant.Statement.{Plan, Scans, Ghosts, Inv, listed, word, rooms, marked-rooms, Chain, Kept, settled, moving, unswept, surviving, Shape, Handles, Layout, Zero, Marks, Unswept, Stage}
 use Rattle.history.proofs.Invariant.Words.{word-early}
@@ -18,27 +18,26 @@ use Rattle.history.proofs.Invariant.Frame.{hold-of, shape-same, handles
 use Rattle.history.proofs.Lists.Laid.{rooms-frame, marked-rooms-frame}
 
 pub record Alike (b c : Box) : Type 0 where
-  pub words-are : c .words ≡ b .words
-  pub flags-are : c .flags ≡ b .flags
-  pub addresses-are : c .addresses ≡ b .addresses
-  pub sizes-are : c .sizes ≡ b .sizes
-  pub deeps-are : c .deeps ≡ b .deeps
-  pub links-length : length (c .links) ≡ length (b .links)
-  pub marks-length : length (c .marks) ≡ length (b .marks)
-  pub m-is : c .state .m ≡ b .state .m
-  pub h-is : c .state .h ≡ b .state .h
-  pub registers-are : c .state .registers ≡ b .state .registers
-  pub register-flags-are : c .state .flags ≡ b .state .flags
-  pub top-is : c .state .top ≡ b .state .top
-  pub free-is : c .state .free ≡ b .state .free
-  pub held-is : c .state .held ≡ b .state .held
+  pub words-are : c .memory .words ≡ b .memory .words
+  pub flags-are : c .memory .flags ≡ b .memory .flags
+  pub addresses-are : c .directory .addresses ≡ b .directory .addresses
+  pub sizes-are : c .directory .sizes ≡ b .directory .sizes
+  pub deeps-are : c .directory .deeps ≡ b .directory .deeps
+  pub links-length : length (c .directory .links) ≡ length (b .directory .links)
+  pub marks-length : length (c .directory .marks) ≡ length (b .directory .marks)
+  pub m-is : c .m ≡ b .m
+  pub h-is : c .h ≡ b .h
+  pub registers-are : c .registers .words ≡ b .registers .words
+  pub register-flags-are : c .registers .flags ≡ b .registers .flags
+  pub top-is : c .top ≡ b .top
+  pub free-is : c .free ≡ b .free
+  pub held-is : c .hold .held ≡ b .hold .held
   pub hold-is : hold-of c ≡ hold-of b
 
--- only the state differs
-pub alike-state : (b : Box) (s : State) → s .m ≡ b .state .m → s .h ≡ b .state .h → s .registers ≡ b .state .registers
-    → s .flags ≡ b .state .flags → s .top ≡ b .state .top → s .free ≡ b .state .free → s .held ≡ b .state .held
-    → hold-of (with-state s b) ≡ hold-of b → Alike b (with-state s b)
-alike-state b s m h r f t q d e =
+-- only the collector differs, and whether a cycle began under the hold
+pub alike-collector : (b : Box) (k : Collector) (q : Hold) → q .held ≡ b .hold .held
+    → hold-of (with-collector k (with-hold q b)) ≡ hold-of b → Alike b (with-collector k (with-hold q b))
+alike-collector b k q d e =
     record {
       words-are = refl;
       flags-are = refl;
@@ -47,12 +46,12 @@ alike-state b s m h r f t q d e =
       deeps-are = refl;
       links-length = refl;
       marks-length = refl;
-      m-is = m;
-      h-is = h;
-      registers-are = r;
-      register-flags-are = f;
-      top-is = t;
-      free-is = q;
+      m-is = refl;
+      h-is = refl;
+      registers-are = refl;
+      register-flags-are = refl;
+      top-is = refl;
+      free-is = refl;
       held-is = d;
       hold-is = e;
     }
@@ -75,10 +74,10 @@ pub deep-alike : (b c : Box) → Alike b c → (h : ℕ) → deep h c ≡ deep h
 deep-alike b c s h = λ i. getD (s .deeps-are i) h false
 
 -- outside phases 5 to 7 a word is at its address
-pub word-alike : (b c : Box) → Alike b c → b .state .phase ≤ 4 → c .state .phase ≤ 4 → (h i : ℕ) → word h i c ≡ word h i b
+pub word-alike : (b c : Box) → Alike b c → b .collector .phase ≤ 4 → c .collector .phase ≤ 4 → (h i : ℕ) → word h i c ≡ word h i b
 word-alike b c s lb lc h i =
-    let vb : b .state .phase < 5 = omega arith in
-    let vc : c .state .phase < 5 = omega arith in
+    let vb : b .collector .phase < 5 = omega arith in
+    let vc : c .collector .phase < 5 = omega arith in
     let there : word-at (address h c + i) c ≡ word-at (address h b + i) b = word-at-alike b c s (address h c + i) ∙ ap (λ (a : ℕ). word-at (a + i) b) (address-alike b c s h) in
     word-early h i c vc ∙ there ∙ sym (word-early h i b vb)
 
@@ -100,8 +99,8 @@ shape-alike b c s = shape-same b c (record {
   held-same = λ e. (sym (s .held-is) ∙ e, s .hold-is);
 })
 
-pub handles-alike : (b c : Box) (p : Plan) (free : List ℕ) → Alike b c → Chain (c .links) (b .state .free) free → Handles b p free → Handles c p free
-handles-alike b c p free s ch = handles-same b c p free (s .h-is) (subst (λ (n : ℕ). Chain (c .links) n free) (sym (s .free-is)) ch)
+pub handles-alike : (b c : Box) (p : Plan) (free : List ℕ) → Alike b c → Chain (c .directory .links) (b .free) free → Handles b p free → Handles c p free
+handles-alike b c p free s ch = handles-same b c p free (s .h-is) (subst (λ (n : ℕ). Chain (c .directory .links) n free) (sym (s .free-is)) ch)
 
 pub layout-alike : (b c : Box) (p : Plan) → Alike b c → Layout b p → Layout c p
 layout-alike b c p s = layout-same b c p (address-alike b c s) (size-alike b c s) (word-at-alike b c s) (s .top-is) (s .m-is)
@@ -112,13 +111,13 @@ zero-unswept b c z s e i = record { above-top = λ a u. word-at-alike b c s a �
 
 -- ---- the kept tuples, before the sweep
 
-pub kept-alike : (b c : Box) (p : Plan) → c .state .phase ≤ 3 → (h : ℕ) → Kept b p h → Kept c p h
+pub kept-alike : (b c : Box) (p : Plan) → c .collector .phase ≤ 3 → (h : ℕ) → Kept b p h → Kept c p h
 kept-alike b c p l h (settled x) = settled x
 kept-alike b c p l h (moving x) = moving x
 kept-alike b c p l h (unswept x u) = unswept x l
 kept-alike b c p l h (surviving x t) = unswept x l
 
-pub quiet-alike : (b c : Box) (p : Plan) → Alike b c → b .state .phase ≤ 3 → c .state .phase ≤ 3 → Quiet b p c p
+pub quiet-alike : (b c : Box) (p : Plan) → Alike b c → b .collector .phase ≤ 3 → c .collector .phase ≤ 3 → Quiet b p c p
 quiet-alike b c p s lb lc =
     record {
       kept-to = kept-alike c b p lb;
@@ -136,7 +135,7 @@ abbrev pub Black : Box → ℕ → Type 0
 Black b h = (k : ℕ) → k < size-of h b → names-tuple (word h (k + 1) b) ≡ true → marked (handle-of (word h (k + 1) b)) b ≡ true
 
 -- marks stay, and what is black is so still
-pub black-alike : (b c : Box) → Alike b c → b .state .phase ≤ 4 → c .state .phase ≤ 4 → ((h : ℕ) → marked h b ≡ true → marked h c ≡ true)
+pub black-alike : (b c : Box) → Alike b c → b .collector .phase ≤ 4 → c .collector .phase ≤ 4 → ((h : ℕ) → marked h b ≡ true → marked h c ≡ true)
     → (h : ℕ) → Black b h → Black c h
 black-alike b c s lb lc m h d k l n =
     let e : word h (k + 1) c ≡ word h (k + 1) b = word-alike b c s lb lc h (k + 1) in
@@ -145,16 +144,16 @@ black-alike b c s lb lc m h d k l n =
 
 -- the tuples that wait for a scan are listed anew: none is added, and those left out are black
 pub record Relisted (b c : Box) (s s′ : Scans) : Type 0 where
-  pub links-are : c .links ≡ b .links
-  pub marks-are : c .marks ≡ b .marks
-  pub live-is : c .state .live ≡ b .state .live
-  pub nexts-chain : Chain (c .links) (c .state .next) (s′ .nexts)
-  pub currents-chain : Chain (c .links) (c .state .current) (s′ .currents)
+  pub links-are : c .directory .links ≡ b .directory .links
+  pub marks-are : c .directory .marks ≡ b .directory .marks
+  pub live-is : c .collector .live ≡ b .collector .live
+  pub nexts-chain : Chain (c .directory .links) (c .collector .next) (s′ .nexts)
+  pub currents-chain : Chain (c .directory .links) (c .collector .current) (s′ .currents)
   pub distinct : Distinct (listed s′)
   pub none-added : (h : ℕ) → Member h (listed s′) → Member h (listed s)
   pub out-black : (h : ℕ) → Member h (listed s) → ¬ Member h (listed s′) → Black b h
 
-pub marks-relisted : (b c : Box) (p : Plan) (free : List ℕ) (s s′ : Scans) → Alike b c → b .state .phase ≤ 3 → c .state .phase ≤ 3
+pub marks-relisted : (b c : Box) (p : Plan) (free : List ℕ) (s s′ : Scans) → Alike b c → b .collector .phase ≤ 3 → c .collector .phase ≤ 3
     → Relisted b c s s′ → Marks b p free s → Marks c p free s′
 marks-relisted b c p free s s′ a lb lc r i =
     record {
@@ -194,8 +193,8 @@ pub unswept-scans : (g : Ghosts) (s : Scans) → Unswept g → Unswept (with-sca
 unswept-scans g s u = search
 
 -- a transition of the marking: what is left to show is the marks and the stage
-pub inv-alike : (b : Box) (g : Ghosts) (c : Box) (s : Scans) → Inv b g → Alike b c → b .state .phase ≤ 3 → c .state .phase ≤ 3
-    → Chain (c .links) (b .state .free) (g .free) → Marks c (g .plan) (g .free) s → Stage c (with-scans s g) → Inv c (with-scans s g)
+pub inv-alike : (b : Box) (g : Ghosts) (c : Box) (s : Scans) → Inv b g → Alike b c → b .collector .phase ≤ 3 → c .collector .phase ≤ 3
+    → Chain (c .directory .links) (b .free) (g .free) → Marks c (g .plan) (g .free) s → Stage c (with-scans s g) → Inv c (with-scans s g)
 inv-alike b g c s i a lb lc ch mk st =
     record {
       shape = shape-alike b c a (i .shape);
@@ -215,11 +214,11 @@ pub record Onward (b : Box) (g : Ghosts) (c : Box) (s : Scans) : Type 0 where
 pub onward-next : (b : Box) (g : Ghosts) (c : Box) (s : Scans) → Onward b g c s → Next b g c
 onward-next b g c s o = record { ghosts = with-scans s g; inv = o .inv; calm = o .calm }
 
-pub onward-alike : (b : Box) (g : Ghosts) (c : Box) (s : Scans) → Alike b c → b .state .phase ≤ 3 → c .state .phase ≤ 3 → Inv c (with-scans s g) → Onward b g c s
+pub onward-alike : (b : Box) (g : Ghosts) (c : Box) (s : Scans) → Alike b c → b .collector .phase ≤ 3 → c .collector .phase ≤ 3 → Inv c (with-scans s g) → Onward b g c s
 onward-alike b g c s a lb lc i = record { inv = i; calm = quiet-calm b (g .plan) c (g .plan) (quiet-alike b c (g .plan) a lb lc) }
 
 -- the tuples that wait are listed anew, and no mark is set
-pub relists : (b : Box) (g : Ghosts) (c : Box) (s : Scans) → Inv b g → Alike b c → b .state .phase ≤ 3 → c .state .phase ≤ 3
+pub relists : (b : Box) (g : Ghosts) (c : Box) (s : Scans) → Inv b g → Alike b c → b .collector .phase ≤ 3 → c .collector .phase ≤ 3
     → Relisted b c (g .scans) s → Stage c (with-scans s g) → Onward b g c s
 relists b g c s i a lb lc r st =
     onward-alike b g c s a lb lc

@@ -6,8 +6,9 @@ use mathlib.Core.List.{List, [], _∷_, _++_}
 use mathlib.Core.Logic.{_≢_}
 use mathlib.Core.Path.{_≡_, refl, sym, _∙_, ap, subst}
 use native.Mathlib.Omega.{arith}
-use Rattle.memory.specs.Box.{Box, Word, handle-of, names-tuple, word-at, register, size-of, marked, deep}
-use Rattle.memory.specs.Collector.{at-rest, begin-sweep}
+use Rattle.rules.specs.Parts.{Word, Box}
+use Rattle.rules.specs.Box.{handle-of, names-tuple, word-at, register, size-of, marked, deep}
+use Rattle.rules.specs.Collector.{at-rest, begin-sweep}
 use Rattle.history.specs.Agreement.{Member}
 use Rattle.history.proofs.Invariant.Statement.{Plan, Ghosts, Inv, all, word, Kept, settled, moving, unswept, surviving, Handles, Contents, Unswept, Unlisted, sweeping}
 use Rattle.history.proofs.Lists.Handles.{member-left, member-right, perm-equal}
@@ -16,15 +17,15 @@ use Rattle.history.proofs.Lists.Laid.{Front, laid-front, laid-from, lai
 use Rattle.history.proofs.Invariant.Frame.{handles-moved, marks-same, Calm}
 use Rattle.history.proofs.Invariant.Resting.{resting-plan, resting, Finished, finished, none-kept}
 use Rattle.history.proofs.Invariant.Stages.{Finds, finds-of, kept-ahead, ahead-entry}
-use Rattle.history.proofs.Marking.Alike.{Alike, alike-state, register-alike, word-alike, shape-alike, handles-alike, layout-alike, zero-unswept, kept-alike, Onward}
+use Rattle.history.proofs.Marking.Alike.{Alike, alike-collector, register-alike, word-alike, shape-alike, handles-alike, layout-alike, zero-unswept, kept-alike, Onward}
 use Rattle.history.proofs.Marking.Start.{listed-none}
 use Rattle.history.proofs.View.Step.{RootsMarked}
 
 -- with next 0, in phase 1, no tuple waits for a scan
-pub none-listed : (b : Box) (g : Ghosts) → Inv b g → b .state .phase ≡ 1 → b .state .next ≡ 0 → Unlisted g
+pub none-listed : (b : Box) (g : Ghosts) → Inv b g → b .collector .phase ≡ 1 → b .collector .next ≡ 0 → Unlisted g
 none-listed b g i e z =
     record {
-      no-nexts = chain-empty (b .links) (b .state .next) (g .scans .nexts) (i .marks .nexts-chain) least z;
+      no-nexts = chain-empty (b .directory .links) (b .collector .next) (g .scans .nexts) (i .marks .nexts-chain) least z;
       no-currents = f .no-currents;
       no-gray = f .no-gray;
     }
@@ -39,7 +40,7 @@ none-listed b g i e z =
 
 begin-alike : (b : Box) → Alike b (begin-sweep b)
 unfolding begin-sweep
-begin-alike b = alike-state b (begin-sweep b .state) refl refl refl refl refl refl refl refl
+begin-alike b = alike-collector b (begin-sweep b .collector) (begin-sweep b .hold) refl refl
 
 -- the kept tuples are the marked ones
 begin-marked : (b : Box) (g : Ghosts) (h : ℕ) → Unswept g → Kept (begin-sweep b) (g .plan) h → marked h b ≡ true
@@ -49,7 +50,7 @@ begin-marked b g h u (moving x) = absurd (subst (λ (hs : List ℕ). Member h hs
 begin-marked b g h u (unswept x l) = absurd (omega arith)
 begin-marked b g h u (surviving x t) = t
 
-begin-contents : (b : Box) (g : Ghosts) → Inv b g → b .state .phase ≡ 1 → b .state .next ≡ 0 → RootsMarked b → Contents (begin-sweep b) (g .plan)
+begin-contents : (b : Box) (g : Ghosts) → Inv b g → b .collector .phase ≡ 1 → b .collector .next ≡ 0 → RootsMarked b → Contents (begin-sweep b) (g .plan)
 unfolding begin-sweep
 begin-contents b g i e z roots =
     record {
@@ -75,7 +76,7 @@ begin-contents b g i e z roots =
         → Kept c (g .plan) (handle-of (word h (k + 1) c)) × (deep h b ≡ true)
     inside h x k l = subst (λ (w : Word). names-tuple w ≡ true → Kept c (g .plan) (handle-of w) × (deep h b ≡ true)) (sym (word-alike b c (begin-alike b) (omega arith) (omega arith) h (k + 1))) (closed h x k l)
 
-pub begins-sweep-onward : (b : Box) (g : Ghosts) → Inv b g → b .state .phase ≡ 1 → b .state .next ≡ 0 → RootsMarked b → b .state .top ≢ 0
+pub begins-sweep-onward : (b : Box) (g : Ghosts) → Inv b g → b .collector .phase ≡ 1 → b .collector .next ≡ 0 → RootsMarked b → b .top ≢ 0
     → Onward b g (begin-sweep b) (g .scans)
 unfolding begin-sweep
 begins-sweep-onward b g i e z roots t =
@@ -106,8 +107,8 @@ begins-sweep-onward b g i e z roots t =
     u : Unswept g
     u = finds-of b g (i .stage) e .unswept-yet
 
-    front : Front b 0 (g .plan .ahead) (b .state .top)
-    front = laid-front b 0 (g .plan .ahead) (b .state .top) (laid-from b (g .plan .base) 0 (g .plan .ahead) (b .state .top) (u .base-zero) (i .layout .ahead-laid)) (λ q. t (sym q))
+    front : Front b 0 (g .plan .ahead) (b .top)
+    front = laid-front b 0 (g .plan .ahead) (b .top) (laid-from b (g .plan .base) 0 (g .plan .ahead) (b .top) (u .base-zero) (i .layout .ahead-laid)) (λ q. t (sym q))
 
     first-is : g .plan .ahead ≡ handle-of (word-at 0 b) ∷ front .rest
     first-is = front .is-cons ∙ ap (λ (h : ℕ). h ∷ front .rest) (front .named)
@@ -115,17 +116,17 @@ begins-sweep-onward b g i e z roots t =
 -- ---- nothing to sweep
 
 -- with top 0 there is no tuple
-pub none-ahead : (b : Box) (g : Ghosts) → Inv b g → Unswept g → b .state .top ≡ 0 → g .plan .ahead ≡ []
-none-ahead b g i u t = laid-none b (g .plan .base) (g .plan .ahead) (b .state .top) (i .layout .ahead-laid) (u .base-zero ∙ sym t)
+pub none-ahead : (b : Box) (g : Ghosts) → Inv b g → Unswept g → b .top ≡ 0 → g .plan .ahead ≡ []
+none-ahead b g i u t = laid-none b (g .plan .base) (g .plan .ahead) (b .top) (i .layout .ahead-laid) (u .base-zero ∙ sym t)
 
 -- so every handle is free
-none-handles : (b : Box) (g : Ghosts) → Inv b g → Unswept g → b .state .top ≡ 0 → Handles b (resting-plan []) (g .free)
+none-handles : (b : Box) (g : Ghosts) → Inv b g → Unswept g → b .top ≡ 0 → Handles b (resting-plan []) (g .free)
 none-handles b g i u t = handles-moved b b (g .plan) (resting-plan []) (g .free) (g .free) (perm-equal same) refl (i .handles .free-chain) (i .handles)
   where
     same : all (g .plan) (g .free) ≡ g .free
     same = rw (u .no-done, u .no-mid, none-ahead b g i u t)
 
-none-contents : (b : Box) (g : Ghosts) → Inv b g → Unswept g → b .state .top ≡ 0 → Contents (at-rest b) (resting-plan [])
+none-contents : (b : Box) (g : Ghosts) → Inv b g → Unswept g → b .top ≡ 0 → Contents (at-rest b) (resting-plan [])
 unfolding at-rest
 none-contents b g i u t =
     record {
@@ -133,7 +134,7 @@ none-contents b g i u t =
       words-kept = λ h x. absurd (none-kept (at-rest b) h x);
     }
 
-pub ends-empty-finished : (b : Box) (g : Ghosts) → Inv b g → b .state .phase ≡ 1 → b .state .next ≡ 0 → b .state .top ≡ 0 → Finished b [] (g .free)
+pub ends-empty-finished : (b : Box) (g : Ghosts) → Inv b g → b .collector .phase ≡ 1 → b .collector .next ≡ 0 → b .top ≡ 0 → Finished b [] (g .free)
 ends-empty-finished b g i e z t =
     record {
       shape = i .shape;
@@ -145,13 +146,13 @@ ends-empty-finished b g i e z t =
       unmarked = λ h x. absurd x;
       free-unmarked = i .marks .free-unmarked;
       no-next = z;
-      no-current = chain-none (b .links) (b .state .current) (g .scans .currents) (i .marks .currents-chain) (finds-of b g (i .stage) e .no-currents);
+      no-current = chain-none (b .directory .links) (b .collector .current) (g .scans .currents) (i .marks .currents-chain) (finds-of b g (i .stage) e .no-currents);
     }
   where
     u : Unswept g
     u = finds-of b g (i .stage) e .unswept-yet
 
-pub ends-empty-inv : (b : Box) (g : Ghosts) → Inv b g → b .state .phase ≡ 1 → b .state .next ≡ 0 → b .state .top ≡ 0 → Inv (at-rest b) (resting [] (g .free))
+pub ends-empty-inv : (b : Box) (g : Ghosts) → Inv b g → b .collector .phase ≡ 1 → b .collector .next ≡ 0 → b .top ≡ 0 → Inv (at-rest b) (resting [] (g .free))
 ends-empty-inv b g i e z t = finished b [] (g .free) (ends-empty-finished b g i e z t)
 
 pub ends-empty-calm : (b : Box) (p : Plan) → Calm b p (at-rest b) (resting-plan [])

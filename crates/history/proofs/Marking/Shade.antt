@@ -10,8 +10,9 @@ use native.Mathlib.Omega.{arith}
 use native.Mathlib.Decide.{ℕ-discrete}
 use lib.ListN.{length, getD, set, length-set}
 use lib.Seq.{getD-set-same, getD-set-other}
-use Rattle.memory.specs.Box.{Box, Word, handle-of, names-tuple, size-of, marked, deep}
-use Rattle.memory.specs.Place.{list-next, mark-live, shade}
+use Rattle.rules.specs.Parts.{Word, Box}
+use Rattle.rules.specs.Box.{handle-of, names-tuple, size-of, marked, deep}
+use Rattle.rules.specs.Place.{list-next, mark-live, shade}
 use Rattle.history.specs.Agreement.{Member, Distinct}
 use Rattle.history.proofs.Invariant.Statement.{Plan, Scans, Ghosts, Inv, listed, word, marked-rooms, Chain, Kept, unswept, Shape, Handles, Contents, Marks, Scan, Stage, at-rest, finding, scanning, adding, sweeping, reading, clearing, writing, zeroing}
 use Rattle.history.proofs.Lists.Handles.{member-left, member-right, perm-shift, perm-sym, perm-distinct, perm-member, Parts, parts}
@@ -56,13 +57,13 @@ shaded-alike {h} {b} (counting e f) = search length-set
 
 -- the collector's numbers, but for live and next
 pub record SameNumbers (b c : Box) : Type 0 where
-  pub phase-is : c .state .phase ≡ b .state .phase
-  pub current-is : c .state .current ≡ b .state .current
-  pub src-is : c .state .src ≡ b .state .src
-  pub dest-is : c .state .dest ≡ b .state .dest
-  pub tuple-is : c .state .tuple ≡ b .state .tuple
-  pub size-is : c .state .size ≡ b .state .size
-  pub index-is : c .state .index ≡ b .state .index
+  pub phase-is : c .collector .phase ≡ b .collector .phase
+  pub current-is : c .collector .current ≡ b .collector .current
+  pub src-is : c .collector .src ≡ b .collector .src
+  pub dest-is : c .collector .dest ≡ b .collector .dest
+  pub tuple-is : c .collector .tuple ≡ b .collector .tuple
+  pub size-is : c .collector .size ≡ b .collector .size
+  pub index-is : c .collector .index ≡ b .collector .index
 
 shaded-numbers : {h : ℕ} {b : Box} {s : Scans} {c : Box} {s′ : Scans} → ShadeCase h b s c s′ → SameNumbers b c
 unfolding list-next mark-live
@@ -73,23 +74,23 @@ shaded-numbers (counting e f) = search
 -- ---- the marks and the links
 
 -- one more mark
-set-mark-true : (b : Box) (h : ℕ) → h < length (b .marks) → getD (set (b .marks) h true) h false ≡ true
-set-mark-true b h l = getD-set-same (b .marks) h true false l
+set-mark-true : (b : Box) (h : ℕ) → h < length (b .directory .marks) → getD (set (b .directory .marks) h true) h false ≡ true
+set-mark-true b h l = getD-set-same (b .directory .marks) h true false l
 
-set-mark-keeps : (b : Box) (h k : ℕ) → h < length (b .marks) → marked k b ≡ true → getD (set (b .marks) h true) k false ≡ true
+set-mark-keeps : (b : Box) (h k : ℕ) → h < length (b .directory .marks) → marked k b ≡ true → getD (set (b .directory .marks) h true) k false ≡ true
 set-mark-keeps b h k l t = go (ℕ-discrete k h)
   where
-    go : Dec (k ≡ h) → getD (set (b .marks) h true) k false ≡ true
-    go (yes e) = subst (λ (n : ℕ). getD (set (b .marks) h true) n false ≡ true) (sym e) (set-mark-true b h l)
-    go (no n) = getD-set-other (b .marks) h k true false n ∙ t
+    go : Dec (k ≡ h) → getD (set (b .directory .marks) h true) k false ≡ true
+    go (yes e) = subst (λ (n : ℕ). getD (set (b .directory .marks) h true) n false ≡ true) (sym e) (set-mark-true b h l)
+    go (no n) = getD-set-other (b .directory .marks) h k true false n ∙ t
 
-shaded-mark : {h : ℕ} {b : Box} {s : Scans} {c : Box} {s′ : Scans} → ShadeCase h b s c s′ → h < length (b .marks) → marked h c ≡ true
+shaded-mark : {h : ℕ} {b : Box} {s : Scans} {c : Box} {s′ : Scans} → ShadeCase h b s c s′ → h < length (b .directory .marks) → marked h c ≡ true
 unfolding list-next mark-live
 shaded-mark (already e) l = e
 shaded-mark {h} {b} (listing e f) l = set-mark-true b h l
 shaded-mark {h} {b} (counting e f) l = set-mark-true b h l
 
-shaded-keeps : {h : ℕ} {b : Box} {s : Scans} {c : Box} {s′ : Scans} → ShadeCase h b s c s′ → h < length (b .marks) → (k : ℕ) → marked k b ≡ true → marked k c ≡ true
+shaded-keeps : {h : ℕ} {b : Box} {s : Scans} {c : Box} {s′ : Scans} → ShadeCase h b s c s′ → h < length (b .directory .marks) → (k : ℕ) → marked k b ≡ true → marked k c ≡ true
 unfolding list-next mark-live
 shaded-keeps (already e) l k t = t
 shaded-keeps {h} {b} (listing e f) l k t = set-mark-keeps b h k l t
@@ -98,15 +99,15 @@ shaded-keeps {h} {b} (counting e f) l k t = set-mark-keeps b h k l t
 shaded-others : {h : ℕ} {b : Box} {s : Scans} {c : Box} {s′ : Scans} → ShadeCase h b s c s′ → (k : ℕ) → k ≢ h → marked k c ≡ marked k b
 unfolding list-next mark-live
 shaded-others (already e) k n = refl
-shaded-others {h} {b} (listing e f) k n = getD-set-other (b .marks) h k true false n
-shaded-others {h} {b} (counting e f) k n = getD-set-other (b .marks) h k true false n
+shaded-others {h} {b} (listing e f) k n = getD-set-other (b .directory .marks) h k true false n
+shaded-others {h} {b} (counting e f) k n = getD-set-other (b .directory .marks) h k true false n
 
 -- a list that h is not on
 shaded-chain : {h : ℕ} {b : Box} {s : Scans} {c : Box} {s′ : Scans} → ShadeCase h b s c s′ → (head : ℕ) (hs : List ℕ) → ¬ Member h hs
-    → Chain (b .links) head hs → Chain (c .links) head hs
+    → Chain (b .directory .links) head hs → Chain (c .directory .links) head hs
 unfolding list-next mark-live
 shaded-chain (already e) head hs n ch = ch
-shaded-chain {h} {b} (listing e f) head hs n ch = chain-set-other (b .links) head hs h (b .state .next) n ch
+shaded-chain {h} {b} (listing e f) head hs n ch = chain-set-other (b .directory .links) head hs h (b .collector .next) n ch
 shaded-chain (counting e f) head hs n ch = ch
 
 -- the tuples that waited wait still
@@ -119,9 +120,9 @@ shaded-waits (counting e f) k x = x
 
 -- what the two cases of an unmarked tuple have in common
 marks-shaded : (h : ℕ) (b : Box) (p : Plan) (free : List ℕ) (s : Scans) (c : Box) (s′ : Scans)
-    → Handles b p free → Member h (p .ahead) → h < length (b .marks) → b .state .phase ≤ 3 → c .state .phase ≤ 3
-    → ShadeCase h b s c s′ → marked h b ≡ false → c .state .live ≡ b .state .live + size-of h b + 1
-    → Chain (c .links) (c .state .next) (s′ .nexts) → Chain (c .links) (c .state .current) (s′ .currents) → Distinct (listed s′)
+    → Handles b p free → Member h (p .ahead) → h < length (b .directory .marks) → b .collector .phase ≤ 3 → c .collector .phase ≤ 3
+    → ShadeCase h b s c s′ → marked h b ≡ false → c .collector .live ≡ b .collector .live + size-of h b + 1
+    → Chain (c .directory .links) (c .collector .next) (s′ .nexts) → Chain (c .directory .links) (c .collector .current) (s′ .currents) → Distinct (listed s′)
     → ((k : ℕ) → Member k (listed s′) → ((k ≡ h) × (deep h b ≡ true)) ⊎ Member k (listed s)) → (¬ Member h (listed s′) → Black b h)
     → Marks b p free s → Marks c p free s′
 marks-shaded h b p free s c s′ hd x l lb lc sh u lv nx cr ds from bl i =
@@ -176,14 +177,14 @@ flat-black : (h : ℕ) (b : Box) (p : Plan) → Contents b p → Kept b p h → 
 flat-black h b p i x f k l n = absurd (false≢true (sym f ∙ i .words-kept h x k l n .1))
 
 shaded-marks : {h : ℕ} {b : Box} {s : Scans} {c : Box} {s′ : Scans} (p : Plan) (free : List ℕ) → ShadeCase h b s c s′
-    → Shape b → Handles b p free → Contents b p → Member h (p .ahead) → h < b .state .h → b .state .phase ≤ 3 → Marks b p free s → Marks c p free s′
+    → Shape b → Handles b p free → Contents b p → Member h (p .ahead) → h < b .h → b .collector .phase ≤ 3 → Marks b p free s → Marks c p free s′
 unfolding list-next mark-live
 shaded-marks p free (already e) sp hd ct x l v i = i
 shaded-marks {h} {b} {s} p free (listing e f) sp hd ct x l v i =
     let out : ¬ Member h (listed s) = unlisted-yet h b p free s i e in
     marks-shaded h b p free s (list-next h (mark-live h b)) (push h s) hd x (subst (λ (n : ℕ). h < n) (sym (sp .marks-length)) l) v v (listing e f) e refl
-    (chain-push (b .links) (b .state .next) (s .nexts) h (i .nexts-chain) (λ m. out (member-right h (s .gray) (s .nexts ++ s .currents) (member-left h (s .nexts) (s .currents) m))) (subst (λ (n : ℕ). h < n) (sym (sp .links-length)) l))
-    (chain-set-other (b .links) (b .state .current) (s .currents) h (b .state .next) (λ m. out (member-right h (s .gray) (s .nexts ++ s .currents) (member-right h (s .nexts) (s .currents) m))) (i .currents-chain))
+    (chain-push (b .directory .links) (b .collector .next) (s .nexts) h (i .nexts-chain) (λ m. out (member-right h (s .gray) (s .nexts ++ s .currents) (member-left h (s .nexts) (s .currents) m))) (subst (λ (n : ℕ). h < n) (sym (sp .links-length)) l))
+    (chain-set-other (b .directory .links) (b .collector .current) (s .currents) h (b .collector .next) (λ m. out (member-right h (s .gray) (s .nexts ++ s .currents) (member-right h (s .nexts) (s .currents) m))) (i .currents-chain))
     (perm-distinct (perm-sym (perm-shift h (s .gray) (s .nexts ++ s .currents))) (out, i .listed-distinct))
     from
     (λ o. absurd (o (perm-member (perm-sym (perm-shift h (s .gray) (s .nexts ++ s .currents))) h (inl refl))))
@@ -222,8 +223,8 @@ scan-numbers b g c s x a k e i =
       index-most = rw (k .index-is, k .size-is) (i .index-most);
     }
 
-shaded-stage : {h : ℕ} {b : Box} {c : Box} {s′ : Scans} (g : Ghosts) → ShadeCase h b (g .scans) c s′ → h < length (b .marks)
-    → 1 ≤ b .state .phase → b .state .phase ≤ 3 → Stage b g → Stage c (with-scans s′ g)
+shaded-stage : {h : ℕ} {b : Box} {c : Box} {s′ : Scans} (g : Ghosts) → ShadeCase h b (g .scans) c s′ → h < length (b .directory .marks)
+    → 1 ≤ b .collector .phase → b .collector .phase ≤ 3 → Stage b g → Stage c (with-scans s′ g)
 shaded-stage {h} {b} {c} {s′} g sh l v w st = go st
   where
     a : Alike b c
@@ -235,19 +236,19 @@ shaded-stage {h} {b} {c} {s′} g sh l v w st = go st
     same : (x i : ℕ) → word x i c ≡ word x i b
     same x i = word-alike b c a (omega arith) (omega (arith, k .phase-is)) x i
 
-    seen : (x : ℕ) → ((k : ℕ) → k + 1 < b .state .index → names-tuple (word x (k + 1) b) ≡ true → marked (handle-of (word x (k + 1) b)) b ≡ true)
-        → (k : ℕ) → k + 1 < c .state .index → names-tuple (word x (k + 1) c) ≡ true → marked (handle-of (word x (k + 1) c)) c ≡ true
+    seen : (x : ℕ) → ((k : ℕ) → k + 1 < b .collector .index → names-tuple (word x (k + 1) b) ≡ true → marked (handle-of (word x (k + 1) b)) b ≡ true)
+        → (k : ℕ) → k + 1 < c .collector .index → names-tuple (word x (k + 1) c) ≡ true → marked (handle-of (word x (k + 1) c)) c ≡ true
     seen x f j u n = subst (λ (z : Word). marked (handle-of z) c ≡ true) (sym (same x (j + 1))) (shaded-keeps sh l (handle-of (word x (j + 1) b)) (f j (subst (λ (z : ℕ). j + 1 < z) (k .index-is) u) (subst (λ (z : Word). names-tuple z ≡ true) (same x (j + 1)) n)))
 
-    kept : (y : ℕ) → (marked y b ≡ true) ⊎ (y ≡ b .state .tuple) → (marked y c ≡ true) ⊎ (y ≡ c .state .tuple)
+    kept : (y : ℕ) → (marked y b ≡ true) ⊎ (y ≡ b .collector .tuple) → (marked y c ≡ true) ⊎ (y ≡ c .collector .tuple)
     kept y (inl t) = inl (shaded-keeps sh l y t)
     kept y (inr e) = inr (e ∙ sym (k .tuple-is))
 
     seen-yet : (x : ℕ)
-        → ((k : ℕ) → k + 1 < b .state .index → names-tuple (word x (k + 1) b) ≡ true → (marked (handle-of (word x (k + 1) b)) b ≡ true) ⊎ (handle-of (word x (k + 1) b) ≡ b .state .tuple))
-        → (k : ℕ) → k + 1 < c .state .index → names-tuple (word x (k + 1) c) ≡ true
-        → (marked (handle-of (word x (k + 1) c)) c ≡ true) ⊎ (handle-of (word x (k + 1) c) ≡ c .state .tuple)
-    seen-yet x f j u n = subst (λ (z : Word). (marked (handle-of z) c ≡ true) ⊎ (handle-of z ≡ c .state .tuple)) (sym (same x (j + 1))) (kept (handle-of (word x (j + 1) b)) (f j (subst (λ (z : ℕ). j + 1 < z) (k .index-is) u) (subst (λ (z : Word). names-tuple z ≡ true) (same x (j + 1)) n)))
+        → ((k : ℕ) → k + 1 < b .collector .index → names-tuple (word x (k + 1) b) ≡ true → (marked (handle-of (word x (k + 1) b)) b ≡ true) ⊎ (handle-of (word x (k + 1) b) ≡ b .collector .tuple))
+        → (k : ℕ) → k + 1 < c .collector .index → names-tuple (word x (k + 1) c) ≡ true
+        → (marked (handle-of (word x (k + 1) c)) c ≡ true) ⊎ (handle-of (word x (k + 1) c) ≡ c .collector .tuple)
+    seen-yet x f j u n = subst (λ (z : Word). (marked (handle-of z) c ≡ true) ⊎ (handle-of z ≡ c .collector .tuple)) (sym (same x (j + 1))) (kept (handle-of (word x (j + 1) b)) (f j (subst (λ (z : ℕ). j + 1 < z) (k .index-is) u) (subst (λ (z : Word). names-tuple z ≡ true) (same x (j + 1)) n)))
 
     go : Stage b g → Stage c (with-scans s′ g)
     go (at-rest p u i m) = absurd (omega arith)
@@ -269,26 +270,26 @@ pub shade-numbers : (h : ℕ) (b : Box) → SameNumbers b (shade h b)
 shade-numbers h b = shaded-numbers (shaded h b none-wait)
 
 -- h is marked, marks stay, and no other is set
-pub shade-mark : (h : ℕ) (b : Box) → Shape b → h < b .state .h → marked h (shade h b) ≡ true
+pub shade-mark : (h : ℕ) (b : Box) → Shape b → h < b .h → marked h (shade h b) ≡ true
 shade-mark h b sp l = shaded-mark (shaded h b none-wait) (subst (λ (n : ℕ). h < n) (sym (sp .marks-length)) l)
 
 -- a free handle is no tuple ahead
-pub shade-free : (h : ℕ) (b : Box) (p : Plan) (free : List ℕ) → Handles b p free → Member h (p .ahead) → Chain ((shade h b) .links) (b .state .free) free
-shade-free h b p free i x = shaded-chain (shaded h b none-wait) (b .state .free) free (parts (p .done) (p .mid) (p .ahead) free (i .distinct) .ahead-free h x) (i .free-chain)
+pub shade-free : (h : ℕ) (b : Box) (p : Plan) (free : List ℕ) → Handles b p free → Member h (p .ahead) → Chain ((shade h b) .directory .links) (b .free) free
+shade-free h b p free i x = shaded-chain (shaded h b none-wait) (b .free) free (parts (p .done) (p .mid) (p .ahead) free (i .distinct) .ahead-free h x) (i .free-chain)
 
-pub shade-quiet : (h : ℕ) (b : Box) (p : Plan) → b .state .phase ≤ 3 → Quiet b p (shade h b) p
+pub shade-quiet : (h : ℕ) (b : Box) (p : Plan) → b .collector .phase ≤ 3 → Quiet b p (shade h b) p
 shade-quiet h b p l = quiet-alike b (shade h b) p (shade-alike h b) l (rw (shade-numbers h b .phase-is) l)
 
 pub shade-marks : (h : ℕ) (b : Box) (p : Plan) (free : List ℕ) (s : Scans) → Shape b → Handles b p free → Contents b p → Member h (p .ahead)
-    → b .state .phase ≤ 3 → Marks b p free s → Marks (shade h b) p free (shade-scans h b s)
+    → b .collector .phase ≤ 3 → Marks b p free s → Marks (shade h b) p free (shade-scans h b s)
 shade-marks h b p free s sp hd ct x l i = shaded-marks p free (shaded h b s) sp hd ct x (ahead-entry b p free h hd x .1) l i
 
-pub shade-stage : (h : ℕ) (b : Box) (g : Ghosts) → Shape b → h < b .state .h → 1 ≤ b .state .phase → b .state .phase ≤ 3 → Stage b g
+pub shade-stage : (h : ℕ) (b : Box) (g : Ghosts) → Shape b → h < b .h → 1 ≤ b .collector .phase → b .collector .phase ≤ 3 → Stage b g
     → Stage (shade h b) (with-scans (shade-scans h b (g .scans)) g)
 shade-stage h b g sp l = shaded-stage g (shaded h b (g .scans)) (subst (λ (n : ℕ). h < n) (sym (sp .marks-length)) l)
 
 -- all of it, in phase 1, 2 or 3
-pub shade-inv : (h : ℕ) (b : Box) (g : Ghosts) → Inv b g → Member h (g .plan .ahead) → 1 ≤ b .state .phase → b .state .phase ≤ 3
+pub shade-inv : (h : ℕ) (b : Box) (g : Ghosts) → Inv b g → Member h (g .plan .ahead) → 1 ≤ b .collector .phase → b .collector .phase ≤ 3
     → Inv (shade h b) (with-scans (shade-scans h b (g .scans)) g)
 shade-inv h b g i x v w =
     inv-alike b g (shade h b) (shade-scans h b (g .scans)) i (shade-alike h b) w (rw (shade-numbers h b .phase-is) w) (shade-free h b (g .plan) (g .free) (i .handles) x)

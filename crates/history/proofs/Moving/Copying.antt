@@ -4,7 +4,8 @@
 use Prim.Native.Nat.{ℕ, _+_, _≤_, _<_}
 use mathlib.Core.Path.{_≡_, refl, sym, ap, _∙_}
 use native.Mathlib.Omega.{arith}
-use Rattle.memory.specs.Box.{Box, word-at}
+use Rattle.rules.specs.Parts.{Box}
+use Rattle.rules.specs.Box.{word-at}
 use Rattle.history.proofs.Invariant.Statement.{Ghosts, Inv, Move, Zero, word, clearing, writing}
 use Rattle.history.proofs.Invariant.Words.{word-moved, word-copied, word-unmoved, word-unread}
 use Rattle.history.proofs.Invariant.Frame.{Next}
@@ -13,16 +14,16 @@ use Rattle.history.proofs.Moving.Within.{Within, within}
 use Rattle.history.proofs.Invariant.Stages.{AtRead, at-read}
 use Rattle.history.proofs.View.Boxes.{copied-box}
 
-copies-words : (p : ℕ) (b : Box) (g : Ghosts) → Move b g → b .state .phase ≡ 5 → 6 ≤ p → p ≤ 7 → (i : ℕ)
-    → word (b .state .tuple) i (copied-box p b) ≡ word (b .state .tuple) i b
-copies-words p b g m q l u i = go (turn i (b .state .index))
+copies-words : (p : ℕ) (b : Box) (g : Ghosts) → Move b g → b .collector .phase ≡ 5 → 6 ≤ p → p ≤ 7 → (i : ℕ)
+    → word (b .collector .tuple) i (copied-box p b) ≡ word (b .collector .tuple) i b
+copies-words p b g m q l u i = go (turn i (b .collector .index))
   where
-    go : Turn i (b .state .index) → word (b .state .tuple) i (copied-box p b) ≡ word (b .state .tuple) i b
-    go (earlier e) = word-moved (b .state .tuple) i (copied-box p b) refl (omega arith) u e ∙ sym (word-moved (b .state .tuple) i b refl (omega arith) (omega arith) e)
-    go (now e) = word-copied (b .state .tuple) i (copied-box p b) refl l u e ∙ ap (λ (a : ℕ). word-at a b) (sym (ap (λ (a : ℕ). a + i) (m .src-is) ∙ ap (λ (j : ℕ). b .state .src + j) e)) ∙ sym (word-unread (b .state .tuple) i b (omega arith) (omega arith))
-    go (later e) = word-unmoved (b .state .tuple) i (copied-box p b) e ∙ sym (word-unmoved (b .state .tuple) i b e)
+    go : Turn i (b .collector .index) → word (b .collector .tuple) i (copied-box p b) ≡ word (b .collector .tuple) i b
+    go (earlier e) = word-moved (b .collector .tuple) i (copied-box p b) refl (omega arith) u e ∙ sym (word-moved (b .collector .tuple) i b refl (omega arith) (omega arith) e)
+    go (now e) = word-copied (b .collector .tuple) i (copied-box p b) refl l u e ∙ ap (λ (a : ℕ). word-at a b) (sym (ap (λ (a : ℕ). a + i) (m .src-is) ∙ ap (λ (j : ℕ). b .collector .src + j) e)) ∙ sym (word-unread (b .collector .tuple) i b (omega arith) (omega arith))
+    go (later e) = word-unmoved (b .collector .tuple) i (copied-box p b) e ∙ sym (word-unmoved (b .collector .tuple) i b e)
 
-copies-within : (p : ℕ) (b : Box) (g : Ghosts) → Move b g → b .state .phase ≡ 5 → 6 ≤ p → p ≤ 7 → Within b (copied-box p b)
+copies-within : (p : ℕ) (b : Box) (g : Ghosts) → Move b g → b .collector .phase ≡ 5 → 6 ≤ p → p ≤ 7 → Within b (copied-box p b)
 copies-within p b g m q l u =
     record {
       still = search;
@@ -36,25 +37,25 @@ copies-within p b g m q l u =
     }
 
 -- zero words stay; where src + index is below live, the bound may pass it
-copies-zero : (p : ℕ) (b : Box) (z y : ℕ) → ((a : ℕ) → b .state .live ≤ a → a < y → a < z) → Zero b z → Zero (copied-box p b) y
+copies-zero : (p : ℕ) (b : Box) (z y : ℕ) → ((a : ℕ) → b .collector .live ≤ a → a < y → a < z) → Zero b z → Zero (copied-box p b) y
 copies-zero p b z y f s = record { above-top = s .above-top; behind = λ a l u. s .behind a l (f a l u) }
 
 -- below live: to phase 7
-pub copies-low : (b : Box) (g : Ghosts) → Inv b g → b .state .phase ≡ 5 → b .state .index ≤ b .state .size
-    → b .state .src + b .state .index < b .state .live → Next b g (copied-box 7 b)
+pub copies-low : (b : Box) (g : Ghosts) → Inv b g → b .collector .phase ≡ 5 → b .collector .index ≤ b .collector .size
+    → b .collector .src + b .collector .index < b .collector .live → Next b g (copied-box 7 b)
 copies-low b g v p l u =
     let s : AtRead b g = at-read b g (v .stage) p in
-    within b (copied-box 7 b) g (b .state .src + b .state .index + 1) v (s .move)
+    within b (copied-box 7 b) g (b .collector .src + b .collector .index + 1) v (s .move)
     (copies-within 7 b g (s .move) p (omega arith) (omega arith))
-    (copies-zero 7 b (g .zeroed) (b .state .src + b .state .index + 1) (λ a x y. omega (arith, s .zeroed-is)) (v .zero-words))
+    (copies-zero 7 b (g .zeroed) (b .collector .src + b .collector .index + 1) (λ a x y. omega (arith, s .zeroed-is)) (v .zero-words))
     (λ m. writing refl m l refl)
 
 -- from live on: to phase 6
-pub copies-high : (b : Box) (g : Ghosts) → Inv b g → b .state .phase ≡ 5 → b .state .index ≤ b .state .size
-    → b .state .live ≤ b .state .src + b .state .index → Next b g (copied-box 6 b)
+pub copies-high : (b : Box) (g : Ghosts) → Inv b g → b .collector .phase ≡ 5 → b .collector .index ≤ b .collector .size
+    → b .collector .live ≤ b .collector .src + b .collector .index → Next b g (copied-box 6 b)
 copies-high b g v p l u =
     let s : AtRead b g = at-read b g (v .stage) p in
-    within b (copied-box 6 b) g (b .state .src + b .state .index) v (s .move)
+    within b (copied-box 6 b) g (b .collector .src + b .collector .index) v (s .move)
     (copies-within 6 b g (s .move) p (omega arith) (omega arith))
-    (copies-zero 6 b (g .zeroed) (b .state .src + b .state .index) (λ a x y. omega (arith, s .zeroed-is)) (v .zero-words))
+    (copies-zero 6 b (g .zeroed) (b .collector .src + b .collector .index) (λ a x y. omega (arith, s .zeroed-is)) (v .zero-words))
     (λ m. clearing refl m l refl)

@@ -5,8 +5,9 @@ use mathlib.Core.List.{List, [], _∷_, _++_}
 use mathlib.Core.Path.{_≡_, refl, sym, ap, _∙_, subst}
 use native.Mathlib.Decide.{decLe}
 use native.Mathlib.Omega.{arith}
-use Rattle.memory.specs.Box.{Box, data-word, word-at}
-use Rattle.memory.specs.Collector.{at-rest}
+use Rattle.rules.specs.Parts.{Box}
+use Rattle.rules.specs.Box.{data-word, word-at}
+use Rattle.rules.specs.Collector.{at-rest}
 use Rattle.history.specs.Agreement.{Member}
 use Rattle.history.proofs.Invariant.Statement.{Ghosts, Inv, all, Move, Kept, marked-rooms, settled, moving, unswept, surviving}
 use Rattle.history.proofs.Lists.Handles.{Perm, member-left}
@@ -21,10 +22,10 @@ use Rattle.history.proofs.View.Boxes.{moved-last-box}
 
 record Ends (b c : Box) : Type 0 where
   settles : Settles b c
-  top-is : c .state .top ≡ b .state .dest + b .state .size + 1
-  free-same : c .state .free ≡ b .state .free
-  next-same : c .state .next ≡ b .state .next
-  current-same : c .state .current ≡ b .state .current
+  top-is : c .top ≡ b .collector .dest + b .collector .size + 1
+  free-same : c .free ≡ b .free
+  next-same : c .collector .next ≡ b .collector .next
+  current-same : c .collector .current ≡ b .collector .current
 
 ends : (b : Box) → Ends b (moved-last-box b)
 ends b =
@@ -40,14 +41,14 @@ rest-settles : (b c : Box) → Settles b c → Settles b (at-rest c)
 unfolding at-rest
 rest-settles b c w = search
 
-rest-phase : (c : Box) → at-rest c .state .phase ≡ 0
+rest-phase : (c : Box) → at-rest c .collector .phase ≡ 0
 unfolding at-rest
 rest-phase c = refl
 
-no-ahead : (b : Box) (g : Ghosts) → Inv b g → Move b g → b .state .src + b .state .size + 1 ≡ b .state .top → g .plan .ahead ≡ []
-no-ahead b g v m e = laid-none b (g .plan .base) (g .plan .ahead) (b .state .top) (v .layout .ahead-laid) (m .base-is ∙ e)
+no-ahead : (b : Box) (g : Ghosts) → Inv b g → Move b g → b .collector .src + b .collector .size + 1 ≡ b .top → g .plan .ahead ≡ []
+no-ahead b g v m e = laid-none b (g .plan .base) (g .plan .ahead) (b .top) (v .layout .ahead-laid) (m .base-is ∙ e)
 
-ends-quiet : (b c : Box) (g : Ghosts) → Inv b g → Written b g → Settles b c → c .state .phase ≡ 0 → g .plan .ahead ≡ []
+ends-quiet : (b c : Box) (g : Ghosts) → Inv b g → Written b g → Settles b c → c .collector .phase ≡ 0 → g .plan .ahead ≡ []
     → Quiet b (g .plan) c (resting-plan (settled-now b g))
 ends-quiet b c g v t w p e =
     record {
@@ -69,7 +70,7 @@ ends-quiet b c g v t w p e =
     none h x = subst (λ (hs : List ℕ). Member h hs) e x
 
     from : (h : ℕ) → Kept b (g .plan) h → Kept c (resting-plan (settled-now b g)) h
-    from h (settled x) = unswept (member-left h (g .plan .done) (b .state .tuple ∷ []) x) (omega arith)
+    from h (settled x) = unswept (member-left h (g .plan .done) (b .collector .tuple ∷ []) x) (omega arith)
     from h (moving x) = unswept (now-settled b g (t .move) h x) (omega arith)
     from h (unswept x l) = absurd (none h x)
     from h (surviving x s) = absurd (none h x)
@@ -78,51 +79,51 @@ ends-perm : (b : Box) (g : Ghosts) → Move b g → g .plan .ahead ≡ [] → Pe
 ends-perm b g m e = subst (λ (hs : List ℕ). Perm (all (g .plan) (g .free)) (settled-now b g ++ (hs ++ g .free))) e (settled-perm b g m)
 
 -- nothing lies ahead, so live ends the tuples settled
-live-ends : (b : Box) (g : Ghosts) → Inv b g → Move b g → g .plan .ahead ≡ [] → b .state .live ≡ b .state .dest + b .state .size + 1
+live-ends : (b : Box) (g : Ghosts) → Inv b g → Move b g → g .plan .ahead ≡ [] → b .collector .live ≡ b .collector .dest + b .collector .size + 1
 unfolding marked-rooms
 live-ends b g v m e =
     let f : Bounds b g = bounds b g v m in
     let z : marked-rooms b (g .plan .ahead) ≡ 0 = ap (marked-rooms b) e in
     omega arith
 
-ends-zero : (b c : Box) (g : Ghosts) → Inv b g → Settles b c → b .state .live ≡ b .state .dest + b .state .size + 1
-    → g .zeroed ≡ b .state .top → (a : ℕ) → b .state .dest + b .state .size + 1 ≤ a → word-at a c ≡ data-word 0
-ends-zero b c g v w l z a u = word-same b c w a ∙ go (decLe (b .state .top) a)
+ends-zero : (b c : Box) (g : Ghosts) → Inv b g → Settles b c → b .collector .live ≡ b .collector .dest + b .collector .size + 1
+    → g .zeroed ≡ b .top → (a : ℕ) → b .collector .dest + b .collector .size + 1 ≤ a → word-at a c ≡ data-word 0
+ends-zero b c g v w l z a u = word-same b c w a ∙ go (decLe (b .top) a)
   where
-    go : Dec (b .state .top ≤ a) → word-at a b ≡ data-word 0
+    go : Dec (b .top ≤ a) → word-at a b ≡ data-word 0
     go (yes t) = v .zero-words .above-top a t
     go (no n) = v .zero-words .behind a (omega arith) (omega arith)
 
-ends-box : (b c : Box) (g : Ghosts) → Inv b g → Written b g → Ends b c → g .zeroed ≡ b .state .top
-    → b .state .src + b .state .size + 1 ≡ b .state .top → Finished c (settled-now b g) (g .free)
+ends-box : (b c : Box) (g : Ghosts) → Inv b g → Written b g → Ends b c → g .zeroed ≡ b .top
+    → b .collector .src + b .collector .size + 1 ≡ b .top → Finished c (settled-now b g) (g .free)
 ends-box b c g v t w z e =
     let s : Settles b c = w .settles in
     let f : Bounds b g = bounds b g v (t .move) in
     let none : g .plan .ahead ≡ [] = no-ahead b g v (t .move) e in
-    let fits : b .state .dest + b .state .size + 1 ≤ b .state .m = omega arith in
+    let fits : b .collector .dest + b .collector .size + 1 ≤ b .m = omega arith in
     record {
       shape = settles-shape b c s (v .shape);
       handles = handles-moved b c (g .plan) (resting-plan (settled-now b g)) (g .free) (g .free) (ends-perm b g (t .move) none) (s .h-same) (rw (s .links-same, w .free-same) (v .handles .free-chain)) (v .handles);
-      laid = laid-to c 0 (settled-now b g) (b .state .dest + b .state .size + 1) (c .state .top) (sym (w .top-is)) (settles-done b c g v t s);
+      laid = laid-to c 0 (settled-now b g) (b .collector .dest + b .collector .size + 1) (c .top) (sym (w .top-is)) (settles-done b c g v t s);
       top-fits = rw (w .top-is, s .m-same) fits;
       contents = quiet-contents b (g .plan) (at-rest c) (resting-plan (settled-now b g)) (ends-quiet b (at-rest c) g v t (rest-settles b c s) (rest-phase c) none) (v .contents);
       above-top = λ a u. ends-zero b c g v s (live-ends b g v (t .move) none) z a (rw (w .top-is) at u);
       unmarked = settles-unmarked b c g v (t .move) s;
       free-unmarked = λ h x. mark-same b c s h ∙ v .marks .free-unmarked h x;
-      no-next = w .next-same ∙ chain-none (b .links) (b .state .next) (g .scans .nexts) (v .marks .nexts-chain) (t .move .unlisted .no-nexts);
-      no-current = w .current-same ∙ chain-none (b .links) (b .state .current) (g .scans .currents) (v .marks .currents-chain) (t .move .unlisted .no-currents);
+      no-next = w .next-same ∙ chain-none (b .directory .links) (b .collector .next) (g .scans .nexts) (v .marks .nexts-chain) (t .move .unlisted .no-nexts);
+      no-current = w .current-same ∙ chain-none (b .directory .links) (b .collector .current) (g .scans .currents) (v .marks .currents-chain) (t .move .unlisted .no-currents);
     }
 
 -- every tuple is settled, in the box that the end of the cycle takes
-pub ends-finished : (b : Box) (g : Ghosts) → Inv b g → b .state .phase ≡ 5 → b .state .size < b .state .index → b .state .src + b .state .size + 1 ≡ b .state .top
-    → Finished (moved-last-box b) (g .plan .done ++ (b .state .tuple ∷ [])) (g .free)
+pub ends-finished : (b : Box) (g : Ghosts) → Inv b g → b .collector .phase ≡ 5 → b .collector .size < b .collector .index → b .collector .src + b .collector .size + 1 ≡ b .top
+    → Finished (moved-last-box b) (g .plan .done ++ (b .collector .tuple ∷ [])) (g .free)
 ends-finished b g v p l e =
     let s : AtRead b g = at-read b g (v .stage) p in
     ends-box b (moved-last-box b) g v (record { move = s .move; in-phase = p; all-written = l }) (ends b) (omega arith) e
 
 -- and what is kept of the box at rest is as it was
-pub ends-calm : (b : Box) (g : Ghosts) → Inv b g → b .state .phase ≡ 5 → b .state .size < b .state .index → b .state .src + b .state .size + 1 ≡ b .state .top
-    → Calm b (g .plan) (at-rest (moved-last-box b)) (resting-plan (g .plan .done ++ (b .state .tuple ∷ [])))
+pub ends-calm : (b : Box) (g : Ghosts) → Inv b g → b .collector .phase ≡ 5 → b .collector .size < b .collector .index → b .collector .src + b .collector .size + 1 ≡ b .top
+    → Calm b (g .plan) (at-rest (moved-last-box b)) (resting-plan (g .plan .done ++ (b .collector .tuple ∷ [])))
 ends-calm b g v p l e =
     let m : Move b g = at-read b g (v .stage) p .move in
     quiet-calm b (g .plan) (at-rest (moved-last-box b)) (resting-plan (settled-now b g)) (ends-quiet b (at-rest (moved-last-box b)) g v (record {
@@ -131,7 +132,7 @@ ends-calm b g v p l e =
       all-written = l;
     }) (rest-settles b (moved-last-box b) (ends b .settles)) (rest-phase (moved-last-box b)) (no-ahead b g v m e))
 
-pub ends-move : (b : Box) (g : Ghosts) → Inv b g → b .state .phase ≡ 5 → b .state .size < b .state .index → b .state .src + b .state .size + 1 ≡ b .state .top
+pub ends-move : (b : Box) (g : Ghosts) → Inv b g → b .collector .phase ≡ 5 → b .collector .size < b .collector .index → b .collector .src + b .collector .size + 1 ≡ b .top
     → Next b g (at-rest (moved-last-box b))
 ends-move b g v p l e =
     record {

@@ -6,7 +6,8 @@ use mathlib.Core.List.{[], _∷_}
 use mathlib.Core.Logic.{_≢_}
 use mathlib.Core.Path.{_≡_, refl, sym, ap, _∙_}
 use native.Mathlib.Omega.{arith}
-use Rattle.memory.specs.Box.{Box, handle-of, word-at}
+use Rattle.rules.specs.Parts.{Box}
+use Rattle.rules.specs.Box.{handle-of, word-at}
 use Rattle.history.proofs.Invariant.Statement.{Plan, Ghosts, Inv, Kept, Layout, Zero, Marks, Stage, rooms, settled, moving, unswept, surviving, sweeping}
 use Rattle.history.proofs.Lists.Handles.{member-left}
 use Rattle.history.proofs.Lists.Laid.{Front, laid-front, laid-to, marked-rooms-frame}
@@ -17,7 +18,7 @@ use Rattle.history.proofs.Invariant.Stages.{AtRead, at-read}
 use Rattle.history.proofs.View.Boxes.{moved-box}
 
 abbrev pub left-plan : Box → Ghosts → Plan
-left-plan b g = record { done = settled-now b g; mid = []; ahead = g .plan .ahead; low = b .state .dest + b .state .size + 1; base = b .state .src + b .state .size + 1 }
+left-plan b g = record { done = settled-now b g; mid = []; ahead = g .plan .ahead; low = b .collector .dest + b .collector .size + 1; base = b .collector .src + b .collector .size + 1 }
 
 abbrev pub left-ghosts : Box → Ghosts → Ghosts
 left-ghosts b g = record { plan = left-plan b g; free = g .free; scans = g .scans; zeroed = g .zeroed }
@@ -25,15 +26,15 @@ left-ghosts b g = record { plan = left-plan b g; free = g .free; scans = g .scan
 -- what of its numbers is read below
 record Leaves (b c : Box) : Type 0 where
   settles : Settles b c
-  top-same : c .state .top ≡ b .state .top
-  free-same : c .state .free ≡ b .state .free
-  live-same : c .state .live ≡ b .state .live
-  next-same : c .state .next ≡ b .state .next
-  current-same : c .state .current ≡ b .state .current
-  phase-is : c .state .phase ≡ 4
-  src-is : c .state .src ≡ b .state .src + b .state .size + 1
-  dest-is : c .state .dest ≡ b .state .dest + b .state .size + 1
-  tuple-is : c .state .tuple ≡ handle-of (word-at (b .state .src + b .state .size + 1) c)
+  top-same : c .top ≡ b .top
+  free-same : c .free ≡ b .free
+  live-same : c .collector .live ≡ b .collector .live
+  next-same : c .collector .next ≡ b .collector .next
+  current-same : c .collector .current ≡ b .collector .current
+  phase-is : c .collector .phase ≡ 4
+  src-is : c .collector .src ≡ b .collector .src + b .collector .size + 1
+  dest-is : c .collector .dest ≡ b .collector .dest + b .collector .size + 1
+  tuple-is : c .collector .tuple ≡ handle-of (word-at (b .collector .src + b .collector .size + 1) c)
 
 leaves : (b : Box) → Leaves b (moved-box b)
 leaves b =
@@ -68,7 +69,7 @@ leaves-quiet b c g v t w =
     to h (surviving x s) = surviving x (sym (mark-same b c (w .settles) h) ∙ s)
 
     from : (h : ℕ) → Kept b (g .plan) h → Kept c (left-plan b g) h
-    from h (settled x) = settled (member-left h (g .plan .done) (b .state .tuple ∷ []) x)
+    from h (settled x) = settled (member-left h (g .plan .done) (b .collector .tuple ∷ []) x)
     from h (moving x) = settled (now-settled b g (t .move) h x)
     from h (unswept x l) = absurd (omega (arith, t .in-phase))
     from h (surviving x s) = surviving x (mark-same b c (w .settles) h ∙ s)
@@ -79,7 +80,7 @@ leaves-layout b c g v t w =
     let f : Bounds b g = bounds b g v (t .move) in
     record {
       done-laid = settles-done b c g v t (w .settles);
-      ahead-laid = laid-to c (b .state .src + b .state .size + 1) (g .plan .ahead) (b .state .top) (c .state .top) (sym (w .top-same)) (settles-ahead b c g v (t .move) (w .settles));
+      ahead-laid = laid-to c (b .collector .src + b .collector .size + 1) (g .plan .ahead) (b .top) (c .top) (sym (w .top-same)) (settles-ahead b c g v (t .move) (w .settles));
       low-base = omega arith;
       top-fits = rw (w .top-same, w .settles .m-same) (v .layout .top-fits);
     }
@@ -96,7 +97,7 @@ unfolding rooms
 leaves-marks b c g v t w =
     let f : Bounds b g = bounds b g v (t .move) in
     let s : Settles b c = w .settles in
-    let live : c .state .live ≡ b .state .live = w .live-same in
+    let live : c .collector .live ≡ b .collector .live = w .live-same in
     record {
       free-unmarked = λ h x. mark-same b c s h ∙ v .marks .free-unmarked h x;
       done-unmarked = settles-unmarked b c g v (t .move) s;
@@ -111,13 +112,13 @@ leaves-marks b c g v t w =
       black = λ l. absurd (late l);
     }
   where
-    late : c .state .phase ≤ 3 → ⊥
+    late : c .collector .phase ≤ 3 → ⊥
     late l = omega (arith, w .phase-is)
 
-leaves-stage : (b c : Box) (g : Ghosts) → Inv b g → Written b g → Leaves b c → g .zeroed ≡ b .state .src + b .state .size + 1
-    → b .state .src + b .state .size + 1 ≢ b .state .top → Stage c (left-ghosts b g)
+leaves-stage : (b c : Box) (g : Ghosts) → Inv b g → Written b g → Leaves b c → g .zeroed ≡ b .collector .src + b .collector .size + 1
+    → b .collector .src + b .collector .size + 1 ≢ b .top → Stage c (left-ghosts b g)
 leaves-stage b c g v t w z n =
-    let f : Front c (b .state .src + b .state .size + 1) (g .plan .ahead) (b .state .top) = laid-front c (b .state .src + b .state .size + 1) (g .plan .ahead) (b .state .top) (settles-ahead b c g v (t .move) (w .settles)) n in
+    let f : Front c (b .collector .src + b .collector .size + 1) (g .plan .ahead) (b .top) = laid-front c (b .collector .src + b .collector .size + 1) (g .plan .ahead) (b .top) (settles-ahead b c g v (t .move) (w .settles)) n in
     sweeping (w .phase-is)
     (record { no-nexts = t .move .unlisted .no-nexts; no-currents = t .move .unlisted .no-currents; no-gray = t .move .unlisted .no-gray })
     refl
@@ -127,8 +128,8 @@ leaves-stage b c g v t w z n =
     (f .rest)
     (f .is-cons ∙ ap (λ (h : ℕ). h ∷ f .rest) (f .named ∙ sym (w .tuple-is)))
 
-leaves-inv : (b c : Box) (g : Ghosts) → Inv b g → Written b g → Leaves b c → g .zeroed ≡ b .state .src + b .state .size + 1
-    → b .state .src + b .state .size + 1 ≢ b .state .top → Next b g c
+leaves-inv : (b c : Box) (g : Ghosts) → Inv b g → Written b g → Leaves b c → g .zeroed ≡ b .collector .src + b .collector .size + 1
+    → b .collector .src + b .collector .size + 1 ≢ b .top → Next b g c
 leaves-inv b c g v t w z n =
     let q : Quiet b (g .plan) c (left-plan b g) = leaves-quiet b c g v t w in
     record {
@@ -145,8 +146,8 @@ leaves-inv b c g v t w z n =
       calm = quiet-calm b (g .plan) c (left-plan b g) q;
     }
 
-pub moves-on : (b : Box) (g : Ghosts) → Inv b g → b .state .phase ≡ 5 → b .state .size < b .state .index
-    → b .state .src + b .state .size + 1 ≢ b .state .top → Next b g (moved-box b)
+pub moves-on : (b : Box) (g : Ghosts) → Inv b g → b .collector .phase ≡ 5 → b .collector .size < b .collector .index
+    → b .collector .src + b .collector .size + 1 ≢ b .top → Next b g (moved-box b)
 moves-on b g v p l n =
     let s : AtRead b g = at-read b g (v .stage) p in
     leaves-inv b (moved-box b) g v (record { move = s .move; in-phase = p; all-written = l }) (leaves b) (omega arith) n

@@ -9,7 +9,8 @@ use mathlib.Core.Logic.{_≢_}
 use mathlib.Core.Path.{_≡_, sym, ap, _∙_, subst}
 use native.Mathlib.Omega.{arith}
 use lib.ListN.{length, getD}
-use Rattle.memory.specs.Box.{Box, Word, word-at, register, address, size-of, marked, deep}
+use Rattle.rules.specs.Parts.{Word, Box}
+use Rattle.rules.specs.Box.{word-at, register, address, size-of, marked, deep}
 use Rattle.history.specs.Agreement.{Member}
 use Rattle.history.proofs.Invariant.Statement.{Ghosts, Inv, Control, Move, Kept, Zero, Layout, Stage, word}
 use Rattle.history.proofs.Invariant.Words.{word-other}
@@ -19,36 +20,36 @@ use Rattle.history.proofs.Moving.Tuple.{Lies, moved, below, above, lies
 
 -- all but the words of memory, phase, index and copy
 pub record Still (b c : Box) : Type 0 where
-  pub m-same : c .state .m ≡ b .state .m
-  pub h-same : c .state .h ≡ b .state .h
-  pub registers-same : c .state .registers ≡ b .state .registers
-  pub register-flags-same : c .state .flags ≡ b .state .flags
-  pub top-same : c .state .top ≡ b .state .top
-  pub free-same : c .state .free ≡ b .state .free
-  pub live-same : c .state .live ≡ b .state .live
-  pub current-same : c .state .current ≡ b .state .current
-  pub next-same : c .state .next ≡ b .state .next
-  pub src-same : c .state .src ≡ b .state .src
-  pub dest-same : c .state .dest ≡ b .state .dest
-  pub tuple-same : c .state .tuple ≡ b .state .tuple
-  pub size-same : c .state .size ≡ b .state .size
-  pub held-same : c .state .held ≡ b .state .held
+  pub m-same : c .m ≡ b .m
+  pub h-same : c .h ≡ b .h
+  pub registers-same : c .registers .words ≡ b .registers .words
+  pub register-flags-same : c .registers .flags ≡ b .registers .flags
+  pub top-same : c .top ≡ b .top
+  pub free-same : c .free ≡ b .free
+  pub live-same : c .collector .live ≡ b .collector .live
+  pub current-same : c .collector .current ≡ b .collector .current
+  pub next-same : c .collector .next ≡ b .collector .next
+  pub src-same : c .collector .src ≡ b .collector .src
+  pub dest-same : c .collector .dest ≡ b .collector .dest
+  pub tuple-same : c .collector .tuple ≡ b .collector .tuple
+  pub size-same : c .collector .size ≡ b .collector .size
+  pub held-same : c .hold .held ≡ b .hold .held
   pub hold-same : hold-of c ≡ hold-of b
-  pub addresses-same : c .addresses ≡ b .addresses
-  pub sizes-same : c .sizes ≡ b .sizes
-  pub links-same : c .links ≡ b .links
-  pub marks-same : c .marks ≡ b .marks
-  pub deeps-same : c .deeps ≡ b .deeps
+  pub addresses-same : c .directory .addresses ≡ b .directory .addresses
+  pub sizes-same : c .directory .sizes ≡ b .directory .sizes
+  pub links-same : c .directory .links ≡ b .directory .links
+  pub marks-same : c .directory .marks ≡ b .directory .marks
+  pub deeps-same : c .directory .deeps ≡ b .directory .deeps
 
 pub record Within (b c : Box) : Type 0 where
   pub still : Still b c
-  pub words-length : length (c .words) ≡ length (b .words)
-  pub flags-length : length (c .flags) ≡ length (b .flags)
-  pub phase-before : 4 ≤ b .state .phase
-  pub phase-after : 4 ≤ c .state .phase
-  pub words-below : (a : ℕ) → a < b .state .dest → word-at a c ≡ word-at a b
-  pub words-above : (a : ℕ) → b .state .src + b .state .size + 1 ≤ a → word-at a c ≡ word-at a b
-  pub words-moved : (i : ℕ) → i ≤ b .state .size → word (b .state .tuple) i c ≡ word (b .state .tuple) i b
+  pub words-length : length (c .memory .words) ≡ length (b .memory .words)
+  pub flags-length : length (c .memory .flags) ≡ length (b .memory .flags)
+  pub phase-before : 4 ≤ b .collector .phase
+  pub phase-after : 4 ≤ c .collector .phase
+  pub words-below : (a : ℕ) → a < b .collector .dest → word-at a c ≡ word-at a b
+  pub words-above : (a : ℕ) → b .collector .src + b .collector .size + 1 ≤ a → word-at a c ≡ word-at a b
+  pub words-moved : (i : ℕ) → i ≤ b .collector .size → word (b .collector .tuple) i c ≡ word (b .collector .tuple) i b
 
 -- the ghosts: words are known to be zero up to z
 abbrev pub zeroed-to : ℕ → Ghosts → Ghosts
@@ -87,14 +88,14 @@ deep-same b c w h = ap (λ (s : List Bool). getD s h false) (w .still .deeps-sam
 within-words : (b c : Box) (g : Ghosts) → Inv b g → Move b g → Within b c → (h : ℕ) → Kept b (g .plan) h → (i : ℕ) → i ≤ size-of h b → word h i c ≡ word h i b
 within-words b c g v m w h k i l = place (lies b g v m h k)
   where
-    elsewhere : h ≢ b .state .tuple → word-at (address h b + i) c ≡ word-at (address h b + i) b → word h i c ≡ word h i b
+    elsewhere : h ≢ b .collector .tuple → word-at (address h b + i) c ≡ word-at (address h b + i) b → word h i c ≡ word h i b
     elsewhere n e =
-        let nc : h ≢ c .state .tuple = λ q. n (q ∙ w .still .tuple-same) in
+        let nc : h ≢ c .collector .tuple = λ q. n (q ∙ w .still .tuple-same) in
         word-other h i c nc ∙ ap (λ (a : ℕ). word-at (a + i) c) (address-same b c w h) ∙ e ∙ sym (word-other h i b n)
 
     place : Lies b h → word h i c ≡ word h i b
     place (moved e) =
-        let s : size-of h b ≡ b .state .size = ap (λ (n : ℕ). size-of n b) e ∙ m .size-is in
+        let s : size-of h b ≡ b .collector .size = ap (λ (n : ℕ). size-of n b) e ∙ m .size-is in
         subst (λ (n : ℕ). word n i c ≡ word n i b) (sym e) (w .words-moved i (omega arith))
     place (below n u) = elsewhere n (w .words-below (address h b + i) (omega arith))
     place (above n u) = elsewhere n (w .words-above (address h b + i) (omega arith))
@@ -110,10 +111,10 @@ within-quiet b c g v m w =
       deeps-same = λ h k. deep-same b c w h;
     }
   where
-    late-c : c .state .phase ≤ 3 → ⊥
+    late-c : c .collector .phase ≤ 3 → ⊥
     late-c l = omega (arith, w .phase-after)
 
-    late-b : b .state .phase ≤ 3 → ⊥
+    late-b : b .collector .phase ≤ 3 → ⊥
     late-b l = omega (arith, w .phase-before)
 
     roots : (r : ℕ) → register r c ≡ register r b
@@ -123,7 +124,7 @@ within-layout : (b c : Box) (g : Ghosts) → Inv b g → Move b g → Within b c
 within-layout b c g v m w =
     record {
       done-laid = laid-frame b c 0 (g .plan .done) (g .plan .low) (λ h x. address-same b c w h) (λ h x. size-same b c w h) low (v .layout .done-laid);
-      ahead-laid = laid-to c (g .plan .base) (g .plan .ahead) (b .state .top) (c .state .top) (sym (w .still .top-same)) (laid-frame b c (g .plan .base) (g .plan .ahead) (b .state .top) (λ h x. address-same b c w h) (λ h x. size-same b c w h) high (v .layout .ahead-laid));
+      ahead-laid = laid-to c (g .plan .base) (g .plan .ahead) (b .top) (c .top) (sym (w .still .top-same)) (laid-frame b c (g .plan .base) (g .plan .ahead) (b .top) (λ h x. address-same b c w h) (λ h x. size-same b c w h) high (v .layout .ahead-laid));
       low-base = rw (rooms-frame b c (g .plan .mid) (λ h x. size-same b c w h)) (v .layout .low-base);
       top-fits = rw (w .still .top-same, w .still .m-same) (v .layout .top-fits);
     }
@@ -143,9 +144,9 @@ within-move b c g z m w =
       low-is = m .low-is ∙ sym (w .still .dest-same);
       base-is = rw (w .still .src-same, w .still .size-same) (m .base-is);
       downward = rw (w .still .src-same, w .still .dest-same) (m .downward);
-      src-is = ap (λ (h : ℕ). address h c) (w .still .tuple-same) ∙ address-same b c w (b .state .tuple) ∙ m .src-is ∙ sym (w .still .src-same);
-      size-is = ap (λ (h : ℕ). size-of h c) (w .still .tuple-same) ∙ size-same b c w (b .state .tuple) ∙ m .size-is ∙ sym (w .still .size-same);
-      control = subst (λ (h : ℕ). Control (word h 0 c) h) (sym (w .still .tuple-same)) (subst (λ (v : Word). Control v (b .state .tuple)) (sym (w .words-moved 0 (omega arith))) (m .control));
+      src-is = ap (λ (h : ℕ). address h c) (w .still .tuple-same) ∙ address-same b c w (b .collector .tuple) ∙ m .src-is ∙ sym (w .still .src-same);
+      size-is = ap (λ (h : ℕ). size-of h c) (w .still .tuple-same) ∙ size-same b c w (b .collector .tuple) ∙ m .size-is ∙ sym (w .still .size-same);
+      control = subst (λ (h : ℕ). Control (word h 0 c) h) (sym (w .still .tuple-same)) (subst (λ (v : Word). Control v (b .collector .tuple)) (sym (w .words-moved 0 (omega arith))) (m .control));
     }
 
 -- with the zero words and the stage, the invariant
@@ -166,5 +167,5 @@ within b c g z v m w zs st =
       calm = quiet-calm b (g .plan) c (g .plan) q;
     }
   where
-    late : c .state .phase ≤ 3 → ⊥
+    late : c .collector .phase ≤ 3 → ⊥
     late l = omega (arith, w .phase-after)

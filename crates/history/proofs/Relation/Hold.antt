@@ -7,12 +7,12 @@ use mathlib.Core.Option.{Option, none, some}
 use mathlib.Core.Path.{_≡_, refl}
 use lib.Dec.{ltb}
 use lib.ListN.{length, length-set, length-replicate}
-use Rattle.memory.specs.declared.kinds.Request.{Request}
-use Rattle.memory.specs.declared.kinds.Request.the-variants.{Setd, Nil, Move, Advance, Getm, Load, Store, Size, Tag, Same}
-use Rattle.memory.specs.Limits.{register-count}
-use Rattle.memory.specs.Box.{Box}
-use Rattle.memory.specs.Request.{hold}
-use Rattle.memory.specs.Collector.{unheld}
+use Rattle.rules.specs.declared.kinds.Request.{Request}
+use Rattle.rules.specs.declared.kinds.Request.the-variants.{Setd, Nil, Move, Advance, Getm, Load, Store, Size, Tag, Same}
+use Rattle.rules.specs.Limits.{register-count}
+use Rattle.rules.specs.Parts.{Box}
+use Rattle.rules.specs.Request.{hold}
+use Rattle.rules.specs.Collector.{unheld}
 use Rattle.history.specs.Machine.{HWord, datum, pointer-to, Asked, History, fresh, register-of, size-at, word-of, made, with-hold, put-in, make, advance-by, load-from, store-to, size-to, tag-to, do-request, hold-request, grant}
 use Rattle.history.proofs.Invariant.Statement.{Plan, Kept, Contents}
 use Rattle.history.proofs.Invariant.Frame.{quiet-calm}
@@ -64,10 +64,10 @@ related-dropped b p m given number s = related-with-hold none (unheld b) p m giv
 pub related-granted : (b : Box) (p : Plan) (c : Box) (q : Plan) (o : Asked) (m : History) (given : List ℕ) (number : ℕ → ℕ)
     → Made b p c q (o .register) (o .size) (o .tag) → Contents b p → Related b p m given number → length (m .registers) ≡ register-count
     → o .register < register-count
-    → Related (unheld c) q (grant (some o) m) (given ++ b .state .free ∷ []) (renumbered number (b .state .free) (suc (made m)))
+    → Related (unheld c) q (grant (some o) m) (given ++ b .free ∷ []) (renumbered number (b .free) (suc (made m)))
 unfolding grant
 related-granted b p c q o m given number a i s eight l =
-    related-dropped c q (make (o .register) (o .size) (o .tag) m) (given ++ b .state .free ∷ []) (renumbered number (b .state .free) (suc (made m)))
+    related-dropped c q (make (o .register) (o .size) (o .tag) m) (given ++ b .free ∷ []) (renumbered number (b .free) (suc (made m)))
     (related-made b p c q (o .register) (o .size) (o .tag) m given number a i s eight l)
 
 -- ---- the history machine's registers

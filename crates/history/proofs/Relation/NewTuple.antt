@@ -14,8 +14,9 @@ use borrow.Author.Tests.{eq-eqb, ne-eqb}
 use lib.Dec.{eqb}
 use lib.ListN.{length, getD, replicate, length-append, length-replicate, getD-replicate, List·getD-append}
 use lib.Seq.{getD-append-seam, getD-set-same, getD-set-other}
-use Rattle.memory.specs.Limits.{register-count}
-use Rattle.memory.specs.Box.{Box, Word, pointer, handle-of, tag-of, names-tuple, register, size-of}
+use Rattle.rules.specs.Limits.{register-count}
+use Rattle.rules.specs.Parts.{Word, Box}
+use Rattle.rules.specs.Box.{pointer, handle-of, tag-of, names-tuple, register, size-of}
 use Rattle.history.specs.Machine.{HWord, datum, pointer-to, HTuple, History, nil-tuple, register-of, tuple-of, word-of, made, make}
 use Rattle.history.specs.Agreement.{handle-at}
 use Rattle.history.proofs.Invariant.Statement.{Plan, word, Kept, Contents}
@@ -86,7 +87,7 @@ le-suc-of-le j n u = omega arith
 module _ (b : Box) (p : Plan) (c : Box) (q : Plan) (r n tag : ℕ) (m : History) (given : List ℕ) (number : ℕ → ℕ) (a : Made b p c q r n tag) (i : Contents b p) (s : Related b p m given number) (eight : length (m .registers) ≡ register-count) (l : r < register-count) where
   -- the handle of the new tuple
   abbrev h : ℕ
-  h = b .state .free
+  h = b .free
 
   abbrev numbers : ℕ → ℕ
   numbers = renumbered number h (suc (made m))
@@ -202,7 +203,7 @@ module _ (b : Box) (p : Plan) (c : Box) (q : Plan) (r n tag : ℕ) (m : History)
       go (inl w) = before w
       go (inr w) = latest (omega (arith, v))
 
-  entry : (j : ℕ) → 1 ≤ j → Number j → (1 ≤ handle-at j handles) × (handle-at j handles < c .state .h)
+  entry : (j : ℕ) → 1 ≤ j → Number j → (1 ≤ handle-at j handles) × (handle-at j handles < c .h)
   entry j o (before u) = rw (given-old j u, a .h-same) (s .given-entry j o u)
   entry j o (latest e) =
       let x : h ≢ 0 = a .handle-not-nil in
@@ -217,7 +218,7 @@ module _ (b : Box) (p : Plan) (c : Box) (q : Plan) (r n tag : ℕ) (m : History)
       go (inr e) = subst (λ (z : ℕ). j ≤ z) (sym (renumbered-other number h (suc (made m)) (handle-at j given) e)) (s .number-latest j o u)
   latest-number j o (latest e) = rw (e, given-new, renumbered-same number h (suc (made m)) h refl) (le-refl (suc (made m)))
 
-  pub related-made : Related c q (make r n tag m) (given ++ b .state .free ∷ []) (renumbered number (b .state .free) (suc (made m)))
+  pub related-made : Related c q (make r n tag m) (given ++ b .free ∷ []) (renumbered number (b .free) (suc (made m)))
   related-made =
       record {
         roots-match = λ t u. root-any t u (eq? t r);

@@ -11,11 +11,12 @@ use native.Mathlib.Omega.{arith}
 use borrow.Author.Tests.{lt-ltb, eq-eqb, ne-eqb}
 use lib.Dec.{eqb}
 use lib.ListN.{length}
-use Rattle.memory.specs.declared.kinds.Request.the-variants.{Setd, Nil, Move, Advance, Load, Size, Tag, Same}
-use Rattle.memory.specs.Limits.{half-word, register-count}
-use Rattle.memory.specs.Box.{Box, Word, data-word, pointer, handle-of, offset-of, tag-of, names-tuple, register, put-register, size-of}
-use Rattle.memory.specs.Place.{place, read}
-use Rattle.memory.specs.Request.{same-word}
+use Rattle.rules.specs.declared.kinds.Request.the-variants.{Setd, Nil, Move, Advance, Load, Size, Tag, Same}
+use Rattle.rules.specs.Limits.{half-word, register-count}
+use Rattle.rules.specs.Parts.{Word, Box}
+use Rattle.rules.specs.Box.{data-word, pointer, handle-of, offset-of, tag-of, names-tuple, register, put-register, size-of}
+use Rattle.rules.specs.Place.{place, read}
+use Rattle.rules.specs.Request.{same-word}
 use Rattle.history.specs.Machine.{HWord, datum, pointer-to, History, register-of, tuple-of, size-at, word-of, put-in, advance-by, load-from, size-to, tag-to, same-hword, do-request}
 use Rattle.history.specs.Agreement.{handle-at, Matches, Agree}
 use Rattle.history.proofs.Invariant.Statement.{Ghosts, Inv, Kept, word}

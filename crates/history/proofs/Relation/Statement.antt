@@ -10,8 +10,9 @@ use native.Mathlib.Decide.{ℕ-discrete}
 use native.Mathlib.Omega.{arith}
 use borrow.Author.Tests.{ne-eqb}
 use lib.ListN.{length}
-use Rattle.memory.specs.Limits.{register-count}
-use Rattle.memory.specs.Box.{Box, Word, handle-of, offset-of, tag-of, names-tuple, register, size-of}
+use Rattle.rules.specs.Limits.{register-count}
+use Rattle.rules.specs.Parts.{Word, Box}
+use Rattle.rules.specs.Box.{handle-of, offset-of, tag-of, names-tuple, register, size-of}
 use Rattle.history.specs.Machine.{HWord, datum, pointer-to, History, register-of, tuple-of, size-at, word-of, made}
 use Rattle.history.specs.Agreement.{Reachable, by-register, by-word, handle-at, Matches, Under, Agree}
 use Rattle.history.proofs.Invariant.Statement.{Plan, word, Kept, Contents}
@@ -36,7 +37,7 @@ pub record Related (b : Box) (p : Plan) (m : History) (given : List ℕ) (number
   pub nil-number : number 0 ≡ 0
   -- each tuple made was given a handle, and a handle's number is the greatest of those that had it
   pub all-given : length given ≡ made m
-  pub given-entry : (i : ℕ) → 1 ≤ i → i ≤ made m → (1 ≤ handle-at i given) × (handle-at i given < b .state .h)
+  pub given-entry : (i : ℕ) → 1 ≤ i → i ≤ made m → (1 ≤ handle-at i given) × (handle-at i given < b .h)
   pub number-latest : (i : ℕ) → 1 ≤ i → i ≤ made m → i ≤ number (handle-at i given)
 
 -- ---- agreement

@@ -7,8 +7,9 @@ use native.Mathlib.Decide.{ℕ-discrete}
 use native.Mathlib.Omega.{arith}
 use lib.ListN.{length}
 use lib.Seq.{getD-set-same, getD-set-other}
-use Rattle.memory.specs.Limits.{register-count}
-use Rattle.memory.specs.Box.{Box, Word, tag-of, register, put-register, size-of}
+use Rattle.rules.specs.Limits.{register-count}
+use Rattle.rules.specs.Parts.{Word, Box}
+use Rattle.rules.specs.Box.{tag-of, register, put-register, size-of}
 use Rattle.history.specs.Machine.{HWord, datum, History, register-of, put-in, word-of}
 use Rattle.history.proofs.Invariant.Statement.{Plan, Kept, Shape}
 use Rattle.history.proofs.Invariant.Frame.{Calm}
@@ -17,7 +18,7 @@ use Rattle.history.proofs.Asking.Registers.{put-word, put-kept-to, regi
 
 -- ---- the collector
 
-pub related-calm : (b c : Box) (p q : Plan) (m : History) (given : List ℕ) (number : ℕ → ℕ) → Calm b p c q → c .state .h ≡ b .state .h
+pub related-calm : (b c : Box) (p q : Plan) (m : History) (given : List ℕ) (number : ℕ → ℕ) → Calm b p c q → c .h ≡ b .h
     → Related b p m given number → Related c q m given number
 related-calm b c p q m given number s e i =
     record {

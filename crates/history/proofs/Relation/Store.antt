@@ -11,9 +11,10 @@ use native.Mathlib.Omega.{arith}
 use borrow.Author.Tests.{lt-ltb}
 use lib.ListN.{length, getD, set, length-set}
 use lib.Seq.{getD-set-same, getD-set-other}
-use Rattle.memory.specs.declared.kinds.Request.the-variants.{Store}
-use Rattle.memory.specs.Limits.{register-count}
-use Rattle.memory.specs.Box.{Box, Word, tag-of, register, size-of}
+use Rattle.rules.specs.declared.kinds.Request.the-variants.{Store}
+use Rattle.rules.specs.Limits.{register-count}
+use Rattle.rules.specs.Parts.{Word, Box}
+use Rattle.rules.specs.Box.{tag-of, register, size-of}
 use Rattle.history.specs.Machine.{HWord, datum, pointer-to, HTuple, History, nil-tuple, register-of, tuple-of, size-at, word-of, made, rewrite-tuple, set-word, store-to, do-request}
 use Rattle.history.specs.Agreement.{handle-at}
 use Rattle.history.proofs.Invariant.Statement.{Plan, Ghosts, Inv, word, Kept}

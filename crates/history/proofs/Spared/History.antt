@@ -12,9 +12,9 @@ use borrow.Author.Tests.{ltb-true}
 use lib.Dec.{ltb}
 use lib.ListN.{length, getD, set, length-set, replicate, length-replicate, getD-replicate, List·getD-eq-default}
 use lib.Seq.{getD-set-same, getD-set-other, set-out}
-use Rattle.memory.specs.declared.kinds.Request.{Request}
-use Rattle.memory.specs.declared.kinds.Request.the-variants.{Setd, Nil, Move, Advance, Getm, Load, Store, Size, Tag, Same}
-use Rattle.memory.specs.Limits.{register-count}
+use Rattle.rules.specs.declared.kinds.Request.{Request}
+use Rattle.rules.specs.declared.kinds.Request.the-variants.{Setd, Nil, Move, Advance, Getm, Load, Store, Size, Tag, Same}
+use Rattle.rules.specs.Limits.{register-count}
 use Rattle.history.specs.Machine.{HWord, datum, pointer-to, HTuple, History, register-of, tuple-of, size-at, word-of, made, put-in, make, rewrite-tuple, advance-by, load-from, store-to, size-to, tag-to, same-hword, do-request}
 use Rattle.history.proofs.Relation.NewTuple.{made-make, tuple-old, tuple-new}
 use Rattle.history.proofs.Relation.Store.{stored-in, made-stored, tuple-stored, tuple-not-stored}

@@ -8,8 +8,9 @@ use mathlib.Core.Path.{_≡_, refl, sym, _∙_, ap₂, subst}
 use native.Mathlib.Decide.{ℕ-discrete}
 use native.Mathlib.Omega.{arith}
 use lib.Seq.{getD-set-other}
-use Rattle.memory.specs.Box.{Box, Word, handle-of, names-tuple, size-of, word-at, marked, deep}
-use Rattle.memory.specs.Place.{list-next, mark-live, shade}
+use Rattle.rules.specs.Parts.{Word, Box}
+use Rattle.rules.specs.Box.{handle-of, names-tuple, size-of, word-at, marked, deep}
+use Rattle.rules.specs.Place.{list-next, mark-live, shade}
 use Rattle.history.specs.Machine.{History}
 use Rattle.history.specs.Agreement.{Member}
 use Rattle.history.proofs.Invariant.Statement.{Plan, Ghosts, Inv, listed, word, Kept, settled, moving, unswept, surviving, Scan}
@@ -21,17 +22,17 @@ use Rattle.history.proofs.Invariant.Stages.{unswept-of, kept-ahead, res
 
 module _ (b : Box) (g : Ghosts) (v : Inv b g) (c : Box) (q : Plan) (s : Calm b (g .plan) c q) where
   -- a tuple ahead after a transition of the marking was ahead before it
-  was-ahead : b .state .phase ≤ 3 → c .state .phase ≤ 3 → (h : ℕ) → Member h (q .ahead) → Member h (g .plan .ahead)
+  was-ahead : b .collector .phase ≤ 3 → c .collector .phase ≤ 3 → (h : ℕ) → Member h (q .ahead) → Member h (g .plan .ahead)
   was-ahead l u h x = kept-ahead b g h (unswept-of b g (v .stage) l) (s .kept-to h (unswept x u))
 
   -- the Rest step
-  pub tracked-rests : (m : History) (number : ℕ → ℕ) → b .state .phase ≡ 0 → c .state .phase ≡ 1 → ((h : ℕ) → marked h c ≡ marked h b) → Tracked c q m number m
+  pub tracked-rests : (m : History) (number : ℕ → ℕ) → b .collector .phase ≡ 0 → c .collector .phase ≡ 1 → ((h : ℕ) → marked h c ≡ marked h b) → Tracked c q m number m
   tracked-rests m number e f k = tracked-start c q m number f (λ h x. k h ∙ rests-of b g (v .stage) e .unmarked h (was-ahead (omega arith) (omega arith) h x))
 
   module _ (m : History) (number : ℕ → ℕ) (started : History) (t : Tracked b (g .plan) m number started) where
     -- a transition of the marking: what it marks newly is spared, and so is what it is to add
-    pub tracked-marks : b .state .phase ≤ 3 → c .state .phase ≤ 3 → ((h : ℕ) → marked h c ≡ true → (marked h b ≡ true) ⊎ Spared started (number h))
-        → (c .state .phase ≡ 3 → Spared started (number (c .state .tuple))) → Tracked c q m number started
+    pub tracked-marks : b .collector .phase ≤ 3 → c .collector .phase ≤ 3 → ((h : ℕ) → marked h c ≡ true → (marked h b ≡ true) ⊎ Spared started (number h))
+        → (c .collector .phase ≡ 3 → Spared started (number (c .collector .tuple))) → Tracked c q m number started
     tracked-marks l u f a = tracked-on b c (g .plan) q m number started t (λ w h x k. go h (was-ahead l u h x) (f h k)) a (λ w. absurd (omega arith))
       where
         go : (h : ℕ) → Member h (g .plan .ahead) → (marked h b ≡ true) ⊎ Spared started (number h) → Spared started (number h)
@@ -39,7 +40,7 @@ module _ (b : Box) (g : Ghosts) (v : Inv b g) (c : Box) (q : Plan) (s : Calm b (
         go h x (inr y) = y
 
     -- the sweep begins: what is kept is marked
-    pub tracked-sweep : b .state .phase ≤ 3 → c .state .phase ≡ 4 → ((h : ℕ) → marked h c ≡ marked h b) → q .done ≡ [] → q .mid ≡ [] → Tracked c q m number started
+    pub tracked-sweep : b .collector .phase ≤ 3 → c .collector .phase ≡ 4 → ((h : ℕ) → marked h c ≡ marked h b) → q .done ≡ [] → q .mid ≡ [] → Tracked c q m number started
     tracked-sweep l e k d f = tracked-on b c (g .plan) q m number started t (λ w. absurd (omega arith)) (λ w. absurd (omega arith)) (λ w. keep)
       where
         keep : (h : ℕ) → Kept c q h → Spared started (number h)
@@ -49,11 +50,11 @@ module _ (b : Box) (g : Ghosts) (v : Inv b g) (c : Box) (q : Plan) (s : Calm b (
         keep h (surviving x w) = t .marked-spared l h (kept-ahead b g h (unswept-of b g (v .stage) l) (s .kept-to h (surviving x w))) (sym (k h) ∙ w)
 
     -- the sweep goes on
-    pub tracked-swept : 4 ≤ b .state .phase → 4 ≤ c .state .phase → Tracked c q m number started
+    pub tracked-swept : 4 ≤ b .collector .phase → 4 ≤ c .collector .phase → Tracked c q m number started
     tracked-swept l u = tracked-on b c (g .plan) q m number started t (λ w. absurd (omega arith)) (λ w. absurd (omega arith)) (λ w h x. t .kept-spared l h (s .kept-to h x))
 
     -- the cycle ends after a sweep
-    pub ended-spared : 4 ≤ b .state .phase → (h : ℕ) → Kept c q h → Spared started (number h)
+    pub ended-spared : 4 ≤ b .collector .phase → (h : ℕ) → Kept c q h → Spared started (number h)
     ended-spared l h x = t .kept-spared l h (s .kept-to h x)
 
 -- ---- shading
@@ -65,8 +66,8 @@ shade-mark-other h b x n = go (marked h b) (deep h b)
   where
     go : (s t : Bool) → marked x (cond s b (cond t (list-next h (mark-live h b)) (mark-live h b))) ≡ marked x b
     go true t = refl
-    go false true = getD-set-other (b .marks) h x true false n
-    go false false = getD-set-other (b .marks) h x true false n
+    go false true = getD-set-other (b .directory .marks) h x true false n
+    go false false = getD-set-other (b .directory .marks) h x true false n
 
 -- what is marked after it was marked before it or is the tuple shaded
 pub shade-marked-only : (h : ℕ) (b : Box) (P : ℕ → Type 0) → P h → (x : ℕ) → marked x (shade h b) ≡ true → (marked x b ≡ true) ⊎ P x
@@ -81,18 +82,18 @@ shade-marked-only h b P y x e = go (ℕ-discrete x h)
 -- what a scanned word names is spared
 pub scanned-spared : (b : Box) (g : Ghosts) (m : History) (given : List ℕ) (number : ℕ → ℕ) (started : History) → Inv b g
     → Related b (g .plan) m given number → Tracked b (g .plan) m number started
-    → b .state .phase ≡ 2 → b .state .index ≤ b .state .size → names-tuple (word-at (b .state .src + b .state .index) b) ≡ true
-    → Spared started (number (handle-of (word-at (b .state .src + b .state .index) b)))
+    → b .collector .phase ≡ 2 → b .collector .index ≤ b .collector .size → names-tuple (word-at (b .collector .src + b .collector .index) b) ≡ true
+    → Spared started (number (handle-of (word-at (b .collector .src + b .collector .index) b)))
 scanned-spared b g m given number started v r t e l n = let s : Scanning b g = scanning-of b g (v .stage) e in found (s .scanned) (s .scan-is)
   where
-    found : (s : ℕ) → Scan b g s → Spared started (number (handle-of (word-at (b .state .src + b .state .index) b)))
+    found : (s : ℕ) → Scan b g s → Spared started (number (handle-of (word-at (b .collector .src + b .collector .index) b)))
     found s c =
         let x : Member s (listed (g .scans)) = subst (λ (y : List ℕ). Member s (y ++ (g .scans .nexts ++ g .scans .currents))) (sym (c .gray-is)) (inl refl) in
         let a : Member s (g .plan .ahead) = v .marks .listed-ahead s x in
         let k : Kept b (g .plan) s = unswept a (omega arith) in
         let p : Spared started (number s) = t .marked-spared (omega arith) s a (v .marks .listed-marked s x) in
-        let z : size-of s b ≡ b .state .size = c .size-is in
-        let o : 1 ≤ b .state .index = c .index-least in
-        let i : b .state .index - 1 + 1 ≡ b .state .index = omega arith in
-        let w : word s (b .state .index - 1 + 1) b ≡ word-at (b .state .src + b .state .index) b = word-early s (b .state .index - 1 + 1) b (omega arith) ∙ ap₂ (λ (y u : ℕ). word-at (y + u) b) (c .src-is) i in
-        subst (λ (y : Word). Spared started (number (handle-of y))) w (word-spared b (g .plan) m given number r (v .contents) started t s k p (b .state .index - 1) (omega arith) (subst (λ (y : Word). names-tuple y ≡ true) (sym w) n))
+        let z : size-of s b ≡ b .collector .size = c .size-is in
+        let o : 1 ≤ b .collector .index = c .index-least in
+        let i : b .collector .index - 1 + 1 ≡ b .collector .index = omega arith in
+        let w : word s (b .collector .index - 1 + 1) b ≡ word-at (b .collector .src + b .collector .index) b = word-early s (b .collector .index - 1 + 1) b (omega arith) ∙ ap₂ (λ (y u : ℕ). word-at (y + u) b) (c .src-is) i in
+        subst (λ (y : Word). Spared started (number (handle-of y))) w (word-spared b (g .plan) m given number r (v .contents) started t s k p (b .collector .index - 1) (omega arith) (subst (λ (y : Word). names-tuple y ≡ true) (sym w) n))

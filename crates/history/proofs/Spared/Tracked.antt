@@ -9,8 +9,9 @@ use mathlib.Core.Logic.{_≢_, inl, inr}
 use mathlib.Core.Path.{_≡_, refl, sym, _∙_, ap, subst}
 use native.Mathlib.Omega.{arith}
 use lib.ListN.{length, List·getD-eq-default}
-use Rattle.memory.specs.Limits.{register-count}
-use Rattle.memory.specs.Box.{Box, Word, handle-of, names-tuple, register, size-of, link, marked}
+use Rattle.rules.specs.Limits.{register-count}
+use Rattle.rules.specs.Parts.{Word, Box}
+use Rattle.rules.specs.Box.{handle-of, names-tuple, register, size-of, link, marked}
 use Rattle.history.specs.Machine.{HTuple, HWord, datum, pointer-to, History, register-of, nil-tuple, size-at, word-of, made}
 use Rattle.history.specs.Agreement.{Reachable, by-register, by-word, handle-at, Listed, here, later, Gone, in-free-list, given-later, Member}
 use Rattle.history.proofs.Invariant.Statement.{Plan, Ghosts, Inv, word, Chain, Kept, settled, moving, unswept, Contents}
@@ -27,10 +28,10 @@ pub record Tracked (b : Box) (p : Plan) (m : History) (number : ℕ → ℕ) (st
   pub not-fewer : made started ≤ made m
   pub roots-spared : (r i o : ℕ) → r < register-count → register-of r m ≡ pointer-to i o → i ≢ 0 → Spared started i
   pub words-spared : (i k j o : ℕ) → Spared started i → k < size-at i m → word-of i k m ≡ pointer-to j o → j ≢ 0 → Spared started j
-  pub marked-spared : b .state .phase ≤ 3 → (h : ℕ) → Member h (p .ahead) → marked h b ≡ true → Spared started (number h)
+  pub marked-spared : b .collector .phase ≤ 3 → (h : ℕ) → Member h (p .ahead) → marked h b ≡ true → Spared started (number h)
   -- in phase 3, so is the tuple to be added
-  pub adding-spared : b .state .phase ≡ 3 → Spared started (number (b .state .tuple))
-  pub kept-spared : 4 ≤ b .state .phase → (h : ℕ) → Kept b p h → Spared started (number h)
+  pub adding-spared : b .collector .phase ≡ 3 → Spared started (number (b .collector .tuple))
+  pub kept-spared : 4 ≤ b .collector .phase → (h : ℕ) → Kept b p h → Spared started (number h)
 
 -- ---- the cycle starts
 
@@ -39,7 +40,7 @@ pub size-beyond : (i : ℕ) (m : History) → made m < i → size-at i m ≡ 0
 size-beyond i m l = ap (λ (t : HTuple). length (t .words)) (List·getD-eq-default (nil-tuple ∷ m .tuples) nil-tuple {n = i} (omega arith))
 
 -- b is the box after its Rest step: phase 1, and nothing marked
-pub tracked-start : (b : Box) (p : Plan) (m : History) (number : ℕ → ℕ) → b .state .phase ≡ 1
+pub tracked-start : (b : Box) (p : Plan) (m : History) (number : ℕ → ℕ) → b .collector .phase ≡ 1
     → ((h : ℕ) → Member h (p .ahead) → marked h b ≡ false) → Tracked b p m number m
 tracked-start b p m number e f =
     record {
@@ -60,9 +61,9 @@ tracked-start b p m number e f =
 -- ---- the collector goes on: the history machine stays, and what is newly marked or kept is spared
 
 pub tracked-on : (b c : Box) (p q : Plan) (m : History) (number : ℕ → ℕ) (started : History) → Tracked b p m number started
-    → (c .state .phase ≤ 3 → (h : ℕ) → Member h (q .ahead) → marked h c ≡ true → Spared started (number h))
-    → (c .state .phase ≡ 3 → Spared started (number (c .state .tuple)))
-    → (4 ≤ c .state .phase → (h : ℕ) → Kept c q h → Spared started (number h))
+    → (c .collector .phase ≤ 3 → (h : ℕ) → Member h (q .ahead) → marked h c ≡ true → Spared started (number h))
+    → (c .collector .phase ≡ 3 → Spared started (number (c .collector .tuple)))
+    → (4 ≤ c .collector .phase → (h : ℕ) → Kept c q h → Spared started (number h))
     → Tracked c q m number started
 tracked-on b c p q m number started i x y z =
     record {
@@ -99,23 +100,23 @@ module _ (b : Box) (p : Plan) (m : History) (given : List ℕ) (number : ℕ →
 -- ---- the cycle's end
 
 -- the members of a chain are listed along the links
-pub chain-listed : (b : Box) (head : ℕ) (hs : List ℕ) (x : ℕ) → Chain (b .links) head hs → ((h : ℕ) → Member h hs → 1 ≤ h) → Member x hs → Listed b x head
+pub chain-listed : (b : Box) (head : ℕ) (hs : List ℕ) (x : ℕ) → Chain (b .directory .links) head hs → ((h : ℕ) → Member h hs → 1 ≤ h) → Member x hs → Listed b x head
 chain-listed b head (h ∷ hs) x c f (inl e) = subst (λ (y : ℕ). Listed b x y) (e ∙ sym (c .0)) (here (let l : 1 ≤ h = f h (inl refl) in omega arith))
 chain-listed b head (h ∷ hs) x c f (inr m) = subst (λ (y : ℕ). Listed b x y) (sym (c .0)) (later h (let l : 1 ≤ h = f h (inl refl) in omega arith) (chain-listed b (link h b) hs x (c .1) (λ y z. f y (inr z)) m))
 
 -- so are the handles of the free list
-pub free-listed : (b : Box) (g : Ghosts) → Inv b g → (x : ℕ) → Member x (g .free) → Listed b x (b .state .free)
-free-listed b g v x m = chain-listed b (b .state .free) (g .free) x (v .handles .free-chain) (λ y z. v .handles .entries y (among-member y (g .plan .done) (g .plan .mid) (g .plan .ahead) (g .free) (among-free z)) .0) m
+pub free-listed : (b : Box) (g : Ghosts) → Inv b g → (x : ℕ) → Member x (g .free) → Listed b x (b .free)
+free-listed b g v x m = chain-listed b (b .free) (g .free) x (v .handles .free-chain) (λ y z. v .handles .entries y (among-member y (g .plan .done) (g .plan .mid) (g .plan .ahead) (g .free) (among-free z)) .0) m
 
 -- and what is listed is a member
-listed-chain : (b : Box) (head : ℕ) (hs : List ℕ) (x : ℕ) → Listed b x head → Chain (b .links) head hs → Member x hs
+listed-chain : (b : Box) (head : ℕ) (hs : List ℕ) (x : ℕ) → Listed b x head → Chain (b .directory .links) head hs → Member x hs
 listed-chain b head [] x (here n) c = absurd (n c)
 listed-chain b head (h ∷ hs) x (here n) c = inl (c .0)
 listed-chain b head [] x (later y n l) c = absurd (n c)
 listed-chain b head (h ∷ hs) x (later y n l) c = inr (listed-chain b (link h b) hs x (subst (λ (z : ℕ). Listed b x (link z b)) (c .0) l) (c .1))
 
-pub listed-free : (b : Box) (g : Ghosts) → Inv b g → (x : ℕ) → Listed b x (b .state .free) → Member x (g .free)
-listed-free b g v x l = listed-chain b (b .state .free) (g .free) x l (v .handles .free-chain)
+pub listed-free : (b : Box) (g : Ghosts) → Inv b g → (x : ℕ) → Listed b x (b .free) → Member x (g .free)
+listed-free b g v x l = listed-chain b (b .free) (g .free) x l (v .handles .free-chain)
 
 -- a tuple made before the cycle started that was unreachable then is not spared
 not-spared : (started : History) (i j : ℕ) → i ≤ made started → ¬ Reachable started i → Spared started j → j ≢ i
@@ -124,7 +125,7 @@ not-spared started i j l n (made-since u) e = omega arith
 
 -- at rest, with all that is kept spared, it is gone
 pub gone-at-rest : (b : Box) (g : Ghosts) (m : History) (given : List ℕ) (number : ℕ → ℕ) (started : History) → Inv b g
-    → Related b (g .plan) m given number → b .state .phase ≡ 0 → made started ≤ made m
+    → Related b (g .plan) m given number → b .collector .phase ≡ 0 → made started ≤ made m
     → ((h : ℕ) → Kept b (g .plan) h → Spared started (number h))
     → (i : ℕ) → 1 ≤ i → i ≤ made started → ¬ Reachable started i → Gone b given i
 gone-at-rest b g m given number started v s e u f i l r n =
@@ -136,7 +137,7 @@ gone-at-rest b g m given number started v s e u f i l r n =
     known : i ≤ made m
     known = omega arith
 
-    entry : (1 ≤ h) × (h < b .state .h)
+    entry : (1 ≤ h) × (h < b .h)
     entry = s .given-entry i l known
 
     replaced : Kept b (g .plan) h → Gone b given i

@@ -6,8 +6,9 @@ use mathlib.Core.List.{List, [], _∷_}
 use mathlib.Core.Logic.{_≢_, _⊎_, inl, inr}
 use mathlib.Core.Path.{_≡_, refl, sym, _∙_, ap, subst}
 use native.Mathlib.Omega.{arith}
-use Rattle.memory.specs.Box.{Box, handle-of, word-at, register, address, size-of, marked, deep}
-use Rattle.memory.specs.Collector.{at-rest}
+use Rattle.rules.specs.Parts.{Box}
+use Rattle.rules.specs.Box.{handle-of, word-at, register, address, size-of, marked, deep}
+use Rattle.rules.specs.Collector.{at-rest}
 use Rattle.history.specs.Agreement.{Member}
 use Rattle.history.proofs.Invariant.Statement.{Plan, Scans, Ghosts, Inv, word, Laid, rooms, marked-rooms, Kept, settled, moving, unswept, surviving, Marks, Unlisted}
 use Rattle.history.proofs.Lists.Laid.{Front, laid-front}
@@ -38,7 +39,7 @@ ghosts-are g low base zeroed hs u m l s z a = λ i. record { plan = record { don
 -- ---- phase 4: the tuple under the sweep is the first ahead, at src
 
 abbrev pub scan-ghosts : Box → List ℕ → List ℕ → List ℕ → Ghosts
-scan-ghosts b ds hs free = sweep-ghosts (b .state .dest) (b .state .src) (b .state .src) ds (b .state .tuple ∷ hs) free
+scan-ghosts b ds hs free = sweep-ghosts (b .collector .dest) (b .collector .src) (b .collector .src) ds (b .collector .tuple ∷ hs) free
 
 pub record Scanned (b : Box) (g : Ghosts) : Type 0 where
   pub settled-tuples : List ℕ
@@ -47,16 +48,16 @@ pub record Scanned (b : Box) (g : Ghosts) : Type 0 where
   pub are : g ≡ scan-ghosts b settled-tuples behind-it free-handles
   pub inv : Inv b (scan-ghosts b settled-tuples behind-it free-handles)
 
-pub scanned : (b : Box) (g : Ghosts) → Inv b g → b .state .phase ≡ 4 → Scanned b g
+pub scanned : (b : Box) (g : Ghosts) → Inv b g → b .collector .phase ≡ 4 → Scanned b g
 scanned b g v p =
     let s : Sweeps b g = sweeps-of b g (v .stage) p in
-    let e : g ≡ scan-ghosts b (g .plan .done) (s .behind) (g .free) = ghosts-are g (b .state .dest) (b .state .src) (b .state .src) (b .state .tuple ∷ s .behind) (s .unlisted) (s .no-mid) (s .low-is) (s .base-is) (s .zeroed-is) (s .ahead-is) in
+    let e : g ≡ scan-ghosts b (g .plan .done) (s .behind) (g .free) = ghosts-are g (b .collector .dest) (b .collector .src) (b .collector .src) (b .collector .tuple ∷ s .behind) (s .unlisted) (s .no-mid) (s .low-is) (s .base-is) (s .zeroed-is) (s .ahead-is) in
     record { settled-tuples = g .plan .done; behind-it = s .behind; free-handles = g .free; are = e; inv = subst (λ (x : Ghosts). Inv b x) e v }
 
 -- ---- phase 8: the tuple under the sweep is freed already, and those ahead lie behind it
 
 abbrev pub zero-ghosts : Box → List ℕ → List ℕ → List ℕ → Ghosts
-zero-ghosts b ds hs free = sweep-ghosts (b .state .dest) (b .state .src + b .state .size + 1) (b .state .src + b .state .index) ds hs free
+zero-ghosts b ds hs free = sweep-ghosts (b .collector .dest) (b .collector .src + b .collector .size + 1) (b .collector .src + b .collector .index) ds hs free
 
 pub record Zeroed (b : Box) (g : Ghosts) : Type 0 where
   pub settled-tuples : List ℕ
@@ -64,13 +65,13 @@ pub record Zeroed (b : Box) (g : Ghosts) : Type 0 where
   pub free-handles : List ℕ
   pub are : g ≡ zero-ghosts b settled-tuples behind-it free-handles
   pub inv : Inv b (zero-ghosts b settled-tuples behind-it free-handles)
-  pub dest-src : b .state .dest ≤ b .state .src
-  pub index-most : b .state .index ≤ b .state .size + 1
+  pub dest-src : b .collector .dest ≤ b .collector .src
+  pub index-most : b .collector .index ≤ b .collector .size + 1
 
-pub zeroed-view : (b : Box) (g : Ghosts) → Inv b g → b .state .phase ≡ 8 → Zeroed b g
+pub zeroed-view : (b : Box) (g : Ghosts) → Inv b g → b .collector .phase ≡ 8 → Zeroed b g
 zeroed-view b g v p =
     let s : Zeroes b g = zeroes-of b g (v .stage) p in
-    let e : g ≡ zero-ghosts b (g .plan .done) (g .plan .ahead) (g .free) = ghosts-are g (b .state .dest) (b .state .src + b .state .size + 1) (b .state .src + b .state .index) (g .plan .ahead) (s .unlisted) (s .no-mid) (s .low-is) (s .base-is) (s .zeroed-is) refl in
+    let e : g ≡ zero-ghosts b (g .plan .done) (g .plan .ahead) (g .free) = ghosts-are g (b .collector .dest) (b .collector .src + b .collector .size + 1) (b .collector .src + b .collector .index) (g .plan .ahead) (s .unlisted) (s .no-mid) (s .low-is) (s .base-is) (s .zeroed-is) refl in
     record {
       settled-tuples = g .plan .done;
       behind-it = g .plan .ahead;
@@ -112,13 +113,13 @@ unfolding marked-rooms
 marked-rooms-nil b = refl
 
 -- live, with no tuple being moved
-pub live-swept : (b : Box) (low base : ℕ) (ds hs free : List ℕ) → Marks b (sweep-plan low base ds hs) free no-scans → b .state .live ≡ low + marked-rooms b hs
+pub live-swept : (b : Box) (low base : ℕ) (ds hs free : List ℕ) → Marks b (sweep-plan low base ds hs) free no-scans → b .collector .live ≡ low + marked-rooms b hs
 live-swept b low base ds hs free m = omega (arith, m .live-is, rooms-none b)
 
 -- the marks while no tuple waits for a scan
-pub swept-marks : (c : Box) (q : Plan) (free : List ℕ) → 4 ≤ c .state .phase
+pub swept-marks : (c : Box) (q : Plan) (free : List ℕ) → 4 ≤ c .collector .phase
     → ((h : ℕ) → Member h free → marked h c ≡ false) → ((h : ℕ) → Member h (q .done) → marked h c ≡ false) → ((h : ℕ) → Member h (q .mid) → marked h c ≡ false)
-    → c .state .live ≡ q .low + (rooms c (q .mid) + marked-rooms c (q .ahead)) → c .state .next ≡ 0 → c .state .current ≡ 0 → Marks c q free no-scans
+    → c .collector .live ≡ q .low + (rooms c (q .mid) + marked-rooms c (q .ahead)) → c .collector .next ≡ 0 → c .collector .current ≡ 0 → Marks c q free no-scans
 swept-marks c q free l f d m e n k =
     record {
       free-unmarked = f;
@@ -135,7 +136,7 @@ swept-marks c q free l f d m e n k =
     }
 
 -- a kept tuple, with none being moved: it is settled, or lies ahead and is marked
-pub kept-swept : (b : Box) (low base : ℕ) (ds hs : List ℕ) → 4 ≤ b .state .phase → (h : ℕ) → Kept b (sweep-plan low base ds hs) h
+pub kept-swept : (b : Box) (low base : ℕ) (ds hs : List ℕ) → 4 ≤ b .collector .phase → (h : ℕ) → Kept b (sweep-plan low base ds hs) h
     → Member h ds ⊎ (Member h hs × (marked h b ≡ true))
 kept-swept b low base ds hs l h (settled x) = inl x
 kept-swept b low base ds hs l h (moving x) = absurd x

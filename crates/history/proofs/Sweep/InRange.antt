@@ -6,8 +6,9 @@ use mathlib.Core.Bool.{false}
 use mathlib.Core.Logic.{_≢_}
 use mathlib.Core.Path.{_≡_}
 use native.Mathlib.Omega.{arith}
-use Rattle.memory.specs.Box.{Box, size-of, marked}
-use Rattle.memory.specs.Collector.{after}
+use Rattle.rules.specs.Parts.{Box}
+use Rattle.rules.specs.Box.{size-of, marked}
+use Rattle.rules.specs.Collector.{after}
 use Rattle.history.proofs.Invariant.Statement.{Ghosts, Inv}
 use Rattle.history.proofs.Lists.Laid.{laid-le}
 use Rattle.history.proofs.Sweep.Ghosts.{Scanned, scanned, Zeroed, zeroed-view}
@@ -16,34 +17,34 @@ use Rattle.history.proofs.View.Boxes.{swept-after}
 
 -- ---- phase 4
 
-pub sweep-entry : (b : Box) (g : Ghosts) → Inv b g → b .state .phase ≡ 4 → (1 ≤ b .state .tuple) × (b .state .tuple < b .state .h)
+pub sweep-entry : (b : Box) (g : Ghosts) → Inv b g → b .collector .phase ≡ 4 → (1 ≤ b .collector .tuple) × (b .collector .tuple < b .h)
 sweep-entry b g v ph = let s : Scanned b g = scanned b g v ph in entry b (s .settled-tuples) (s .behind-it) (s .free-handles) (s .inv)
 
-pub sweep-end-below-top : (b : Box) (g : Ghosts) → Inv b g → b .state .phase ≡ 4 → swept-after b ≤ b .state .top
+pub sweep-end-below-top : (b : Box) (g : Ghosts) → Inv b g → b .collector .phase ≡ 4 → swept-after b ≤ b .top
 sweep-end-below-top b g v ph = let s : Scanned b g = scanned b g v ph in end-below-top b (s .settled-tuples) (s .behind-it) (s .free-handles) (s .inv)
 
-pub sweep-end-fits : (b : Box) (g : Ghosts) → Inv b g → b .state .phase ≡ 4 → swept-after b ≤ b .state .m
+pub sweep-end-fits : (b : Box) (g : Ghosts) → Inv b g → b .collector .phase ≡ 4 → swept-after b ≤ b .m
 sweep-end-fits b g v ph = omega (arith, sweep-end-below-top b g v ph, v .layout .top-fits)
 
-pub sweep-more-fits : (b : Box) (g : Ghosts) → Inv b g → b .state .phase ≡ 4 → swept-after b ≢ b .state .top → swept-after b < b .state .m
+pub sweep-more-fits : (b : Box) (g : Ghosts) → Inv b g → b .collector .phase ≡ 4 → swept-after b ≢ b .top → swept-after b < b .m
 sweep-more-fits b g v ph more = omega (arith, sweep-end-below-top b g v ph, v .layout .top-fits)
 
-pub release-more-fits : (b : Box) (g : Ghosts) → Inv b g → b .state .phase ≡ 4 → marked (b .state .tuple) b ≡ false
-    → b .state .src + size-of (b .state .tuple) b < b .state .live → swept-after b < b .state .m
+pub release-more-fits : (b : Box) (g : Ghosts) → Inv b g → b .collector .phase ≡ 4 → marked (b .collector .tuple) b ≡ false
+    → b .collector .src + size-of (b .collector .tuple) b < b .collector .live → swept-after b < b .m
 release-more-fits b g v ph mk below =
     let s : Scanned b g = scanned b g v ph in
     omega (arith, more-behind b (s .settled-tuples) (s .behind-it) (s .free-handles) (s .inv) mk below, v .layout .top-fits)
 
 -- ---- phase 8
 
-pub zero-end-below-top : (b : Box) (g : Ghosts) → Inv b g → b .state .phase ≡ 8 → after b ≤ b .state .top
-zero-end-below-top b g v ph = let s : Zeroed b g = zeroed-view b g v ph in laid-le b (after b) (s .behind-it) (b .state .top) (s .inv .layout .ahead-laid)
+pub zero-end-below-top : (b : Box) (g : Ghosts) → Inv b g → b .collector .phase ≡ 8 → after b ≤ b .top
+zero-end-below-top b g v ph = let s : Zeroed b g = zeroed-view b g v ph in laid-le b (after b) (s .behind-it) (b .top) (s .inv .layout .ahead-laid)
 
-pub zero-index-fits : (b : Box) (g : Ghosts) → Inv b g → b .state .phase ≡ 8 → b .state .index ≤ b .state .size → b .state .src + b .state .index < b .state .m
+pub zero-index-fits : (b : Box) (g : Ghosts) → Inv b g → b .collector .phase ≡ 8 → b .collector .index ≤ b .collector .size → b .collector .src + b .collector .index < b .m
 zero-index-fits b g v ph turn = omega (arith, zero-end-below-top b g v ph, v .layout .top-fits)
 
-pub zero-end-fits : (b : Box) (g : Ghosts) → Inv b g → b .state .phase ≡ 8 → after b ≤ b .state .m
+pub zero-end-fits : (b : Box) (g : Ghosts) → Inv b g → b .collector .phase ≡ 8 → after b ≤ b .m
 zero-end-fits b g v ph = omega (arith, zero-end-below-top b g v ph, v .layout .top-fits)
 
-pub zero-more-fits : (b : Box) (g : Ghosts) → Inv b g → b .state .phase ≡ 8 → after b ≢ b .state .top → after b < b .state .m
+pub zero-more-fits : (b : Box) (g : Ghosts) → Inv b g → b .collector .phase ≡ 8 → after b ≢ b .top → after b < b .m
 zero-more-fits b g v ph more = omega (arith, zero-end-below-top b g v ph, v .layout .top-fits)

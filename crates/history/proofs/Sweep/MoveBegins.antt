@@ -7,7 +7,8 @@ use mathlib.Core.Logic.{_≢_, inl, inr}
 use mathlib.Core.Path.{_≡_, refl, sym, _∙_, ap, subst}
 use native.Mathlib.Omega.{arith}
 use lib.ListN.{length-set}
-use Rattle.memory.specs.Box.{Box, Word, word-at, address, marked}
+use Rattle.rules.specs.Parts.{Word, Box}
+use Rattle.rules.specs.Box.{word-at, address, marked}
 use Rattle.history.specs.Agreement.{Member}
 use Rattle.history.proofs.Invariant.Statement.{Plan, Ghosts, Inv, word, Control, marked-rooms, Kept, settled, moving, unswept, surviving, Layout, Marks, Move, Stage}
 use Rattle.history.proofs.Invariant.Words.{word-early, word-unread}
@@ -19,33 +20,33 @@ use Rattle.history.proofs.Sweep.Tuple.{ahead-other, at-src, control-at-
 use Rattle.history.proofs.View.Boxes.{move-begun-box, swept-after}
 
 abbrev move-begun-plan : Box → List ℕ → List ℕ → Plan
-move-begun-plan b ds hs = record { done = ds; mid = b .state .tuple ∷ []; ahead = hs; low = b .state .dest; base = swept-after b }
+move-begun-plan b ds hs = record { done = ds; mid = b .collector .tuple ∷ []; ahead = hs; low = b .collector .dest; base = swept-after b }
 
 abbrev move-begun-ghosts : Box → List ℕ → List ℕ → List ℕ → Ghosts
-move-begun-ghosts b ds hs free = record { plan = move-begun-plan b ds hs; free = free; scans = no-scans; zeroed = b .state .src }
+move-begun-ghosts b ds hs free = record { plan = move-begun-plan b ds hs; free = free; scans = no-scans; zeroed = b .collector .src }
 
-module _ (b : Box) (ds hs free : List ℕ) (v : Inv b (scan-ghosts b ds hs free)) (ph : b .state .phase ≡ 4) (mk : marked (b .state .tuple) b ≡ true) (away : b .state .src ≢ b .state .dest) where
+module _ (b : Box) (ds hs free : List ℕ) (v : Inv b (scan-ghosts b ds hs free)) (ph : b .collector .phase ≡ 4) (mk : marked (b .collector .tuple) b ≡ true) (away : b .collector .src ≢ b .collector .dest) where
   begun-shape : SameShape b (move-begun-box b)
   begun-shape = search length-set
 
   begun-layout : Layout (move-begun-box b) (move-begun-plan b ds hs)
   begun-layout =
       record {
-        done-laid = laid-frame b (move-begun-box b) 0 ds (b .state .dest) (λ h x. refl) (λ h x. refl) (λ h x. refl) (v .layout .done-laid);
-        ahead-laid = laid-frame b (move-begun-box b) (swept-after b) hs (b .state .top) (λ h x. refl) (λ h x. refl) (λ h x. refl) (behind-laid b ds hs free v);
-        low-base = omega (arith, rooms-one (move-begun-box b) (b .state .tuple), dest-below-src b ds hs free v);
+        done-laid = laid-frame b (move-begun-box b) 0 ds (b .collector .dest) (λ h x. refl) (λ h x. refl) (λ h x. refl) (v .layout .done-laid);
+        ahead-laid = laid-frame b (move-begun-box b) (swept-after b) hs (b .top) (λ h x. refl) (λ h x. refl) (λ h x. refl) (behind-laid b ds hs free v);
+        low-base = omega (arith, rooms-one (move-begun-box b) (b .collector .tuple), dest-below-src b ds hs free v);
         top-fits = v .layout .top-fits;
       }
 
   begun-rooms : marked-rooms (move-begun-box b) hs ≡ marked-rooms b hs
   begun-rooms = marked-rooms-frame b (move-begun-box b) hs (λ h x. refl) (λ h x. unmarked-other b ds hs free v h (ahead-other b ds hs free v h x))
 
-  begun-unmarked : (h : ℕ) → Member h (b .state .tuple ∷ []) → marked h (move-begun-box b) ≡ false
+  begun-unmarked : (h : ℕ) → Member h (b .collector .tuple ∷ []) → marked h (move-begun-box b) ≡ false
   begun-unmarked h (inl e) = subst (λ (x : ℕ). marked x (move-begun-box b) ≡ false) (sym e) (unmarked-here b ds hs free v)
   begun-unmarked h (inr x) = absurd x
 
   begun-marks : Marks (move-begun-box b) (move-begun-plan b ds hs) free no-scans
-  begun-marks = swept-marks (move-begun-box b) (move-begun-plan b ds hs) free (omega arith) (λ h x. still-unmarked b ds hs free v h (v .marks .free-unmarked h x)) (λ h x. still-unmarked b ds hs free v h (v .marks .done-unmarked h x)) begun-unmarked (omega (arith, live-if-marked b ds hs free v mk, begun-rooms, rooms-one (move-begun-box b) (b .state .tuple))) (v .marks .nexts-chain) (v .marks .currents-chain)
+  begun-marks = swept-marks (move-begun-box b) (move-begun-plan b ds hs) free (omega arith) (λ h x. still-unmarked b ds hs free v h (v .marks .free-unmarked h x)) (λ h x. still-unmarked b ds hs free v h (v .marks .done-unmarked h x)) begun-unmarked (omega (arith, live-if-marked b ds hs free v mk, begun-rooms, rooms-one (move-begun-box b) (b .collector .tuple))) (v .marks .nexts-chain) (v .marks .currents-chain)
 
   begun-from : (h : ℕ) → Kept b (scan-ghosts b ds hs free .plan) h → Kept (move-begun-box b) (move-begun-plan b ds hs) h
   begun-from h (settled x) = settled x
@@ -68,11 +69,11 @@ module _ (b : Box) (ds hs free : List ℕ) (v : Inv b (scan-ghosts b ds hs free)
   begun-quiet : Quiet b (scan-ghosts b ds hs free .plan) (move-begun-box b) (move-begun-plan b ds hs)
   begun-quiet = plain-quiet b (scan-ghosts b ds hs free .plan) (move-begun-box b) (move-begun-plan b ds hs) (λ h i. word-early h i b (omega arith)) begun-plain (λ h. refl) (λ h. refl) (λ a. refl) (λ h. refl) (λ r. refl) begun-to begun-from
 
-  begun-control : Control (word (b .state .tuple) 0 (move-begun-box b)) (b .state .tuple)
+  begun-control : Control (word (b .collector .tuple) 0 (move-begun-box b)) (b .collector .tuple)
   begun-control =
-      let first : address (b .state .tuple) b + 0 ≡ b .state .src = omega (arith, at-src b ds hs free v) in
-      let e : word (b .state .tuple) 0 (move-begun-box b) ≡ word-at (b .state .src) b = begun-plain (b .state .tuple) 0 ∙ ap (λ (a : ℕ). word-at a b) first in
-      subst (λ (w : Word). Control w (b .state .tuple)) (sym e) (control-at-src b ds hs free v)
+      let first : address (b .collector .tuple) b + 0 ≡ b .collector .src = omega (arith, at-src b ds hs free v) in
+      let e : word (b .collector .tuple) 0 (move-begun-box b) ≡ word-at (b .collector .src) b = begun-plain (b .collector .tuple) 0 ∙ ap (λ (a : ℕ). word-at a b) first in
+      subst (λ (w : Word). Control w (b .collector .tuple)) (sym e) (control-at-src b ds hs free v)
 
   begun-move : Move (move-begun-box b) (move-begun-ghosts b ds hs free)
   begun-move =
@@ -93,7 +94,7 @@ module _ (b : Box) (ds hs free : List ℕ) (v : Inv b (scan-ghosts b ds hs free)
         ghosts = move-begun-ghosts b ds hs free;
         inv = record {
           shape = shape-same b (move-begun-box b) begun-shape (v .shape);
-          handles = handles-moved b (move-begun-box b) (scan-ghosts b ds hs free .plan) (move-begun-plan b ds hs) free free (perm-ahead-mid (b .state .tuple) ds hs free) refl (v .handles .free-chain) (v .handles);
+          handles = handles-moved b (move-begun-box b) (scan-ghosts b ds hs free .plan) (move-begun-plan b ds hs) free free (perm-ahead-mid (b .collector .tuple) ds hs free) refl (v .handles .free-chain) (v .handles);
           layout = begun-layout;
           contents = quiet-contents b (scan-ghosts b ds hs free .plan) (move-begun-box b) (move-begun-plan b ds hs) begun-quiet (v .contents);
           zero-words = record { above-top = v .zero-words .above-top; behind = v .zero-words .behind };
@@ -103,8 +104,8 @@ module _ (b : Box) (ds hs free : List ℕ) (v : Inv b (scan-ghosts b ds hs free)
         calm = quiet-calm b (scan-ghosts b ds hs free .plan) (move-begun-box b) (move-begun-plan b ds hs) begun-quiet;
       }
 
-pub starts-move : (b : Box) (g : Ghosts) → Inv b g → b .state .phase ≡ 4 → marked (b .state .tuple) b ≡ true
-    → b .state .src ≢ b .state .dest → Next b g (move-begun-box b)
+pub starts-move : (b : Box) (g : Ghosts) → Inv b g → b .collector .phase ≡ 4 → marked (b .collector .tuple) b ≡ true
+    → b .collector .src ≢ b .collector .dest → Next b g (move-begun-box b)
 starts-move b g v ph mk away =
     let s : Scanned b g = scanned b g v ph in
     next-at b g (scan-ghosts b (s .settled-tuples) (s .behind-it) (s .free-handles)) (move-begun-box b) (s .are) (starts-move-at b (s .settled-tuples) (s .behind-it) (s .free-handles) (s .inv) ph mk away)

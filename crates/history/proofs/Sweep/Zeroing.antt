@@ -9,9 +9,9 @@ use mathlib.Core.Path.{_≡_, refl, sym, _∙_, ap, subst}
 use native.Mathlib.Decide.{ℕ-discrete, decLt}
 use native.Mathlib.Omega.{arith}
 use lib.ListN.{length-set}
-use Rattle.memory.specs.State.{with-phase, with-src, with-tuple, with-index}
-use Rattle.memory.specs.Box.{Box, data-word, handle-of, with-state, word-at, put, address, size-of, marked}
-use Rattle.memory.specs.Collector.{after, at-rest}
+use Rattle.rules.specs.Parts.{Box, with-index, with-phase, with-src, with-tuple}
+use Rattle.rules.specs.Box.{data-word, handle-of, word-at, put, address, size-of, marked}
+use Rattle.rules.specs.Collector.{after, at-rest}
 use Rattle.history.specs.Agreement.{Member}
 use Rattle.history.proofs.Invariant.Statement.{Ghosts, Inv, Kept, settled, moving, unswept, surviving, Layout, Zero, Stage}
 use Rattle.history.proofs.Invariant.Words.{word-early, word-late, put-same, put-other}
@@ -25,18 +25,18 @@ use Rattle.history.proofs.View.Boxes.{zeroed-last-box}
 -- ---- a word becomes data 0
 
 abbrev pub zeroed-box : Box → Box
-zeroed-box b = put (b .state .src + b .state .index) (data-word 0) (with-state (with-index (b .state .index + 1) (b .state)) b)
+zeroed-box b = put (b .collector .src + b .collector .index) (data-word 0) (with-index (b .collector .index + 1) b)
 
-module _ (b : Box) (ds hs free : List ℕ) (v : Inv b (zero-ghosts b ds hs free)) (ph : b .state .phase ≡ 8) (order : b .state .dest ≤ b .state .src) (turn : b .state .index ≤ b .state .size) where
+module _ (b : Box) (ds hs free : List ℕ) (v : Inv b (zero-ghosts b ds hs free)) (ph : b .collector .phase ≡ 8) (order : b .collector .dest ≤ b .collector .src) (turn : b .collector .index ≤ b .collector .size) where
   -- the word lies below those ahead, and in memory
-  zeroed-below-top : b .state .src + b .state .size + 1 ≤ b .state .top
-  zeroed-below-top = laid-le b (b .state .src + b .state .size + 1) hs (b .state .top) (v .layout .ahead-laid)
+  zeroed-below-top : b .collector .src + b .collector .size + 1 ≤ b .top
+  zeroed-below-top = laid-le b (b .collector .src + b .collector .size + 1) hs (b .top) (v .layout .ahead-laid)
 
-  zeroed-other : (x : ℕ) → x ≢ b .state .src + b .state .index → word-at x (zeroed-box b) ≡ word-at x b
-  zeroed-other x n = put-other (b .state .src + b .state .index) (data-word 0) b x n
+  zeroed-other : (x : ℕ) → x ≢ b .collector .src + b .collector .index → word-at x (zeroed-box b) ≡ word-at x b
+  zeroed-other x n = put-other (b .collector .src + b .collector .index) (data-word 0) b x n
 
-  zeroed-here : word-at (b .state .src + b .state .index) (zeroed-box b) ≡ data-word 0
-  zeroed-here = put-same (b .state .src + b .state .index) (data-word 0) b (omega (arith, zeroed-below-top, v .layout .top-fits, v .shape .words-length)) (omega (arith, zeroed-below-top, v .layout .top-fits, v .shape .flags-length))
+  zeroed-here : word-at (b .collector .src + b .collector .index) (zeroed-box b) ≡ data-word 0
+  zeroed-here = put-same (b .collector .src + b .collector .index) (data-word 0) b (omega (arith, zeroed-below-top, v .layout .top-fits, v .shape .words-length)) (omega (arith, zeroed-below-top, v .layout .top-fits, v .shape .flags-length))
 
   zeroed-shape : SameShape b (zeroed-box b)
   zeroed-shape = search length-set
@@ -44,31 +44,31 @@ module _ (b : Box) (ds hs free : List ℕ) (v : Inv b (zero-ghosts b ds hs free)
   zeroed-layout : Layout (zeroed-box b) (zero-ghosts b ds hs free .plan)
   zeroed-layout =
       record {
-        done-laid = laid-words b (zeroed-box b) 0 ds (b .state .dest) (λ h x. refl) (λ h x. refl) (λ x l u. zeroed-other x (omega arith)) (v .layout .done-laid);
-        ahead-laid = laid-words b (zeroed-box b) (b .state .src + b .state .size + 1) hs (b .state .top) (λ h x. refl) (λ h x. refl) (λ x l u. zeroed-other x (omega arith)) (v .layout .ahead-laid);
+        done-laid = laid-words b (zeroed-box b) 0 ds (b .collector .dest) (λ h x. refl) (λ h x. refl) (λ x l u. zeroed-other x (omega arith)) (v .layout .done-laid);
+        ahead-laid = laid-words b (zeroed-box b) (b .collector .src + b .collector .size + 1) hs (b .top) (λ h x. refl) (λ h x. refl) (λ x l u. zeroed-other x (omega arith)) (v .layout .ahead-laid);
         low-base = omega (arith, rooms-none (zeroed-box b));
         top-fits = v .layout .top-fits;
       }
 
-  zeroed-zero : Zero (zeroed-box b) (b .state .src + (b .state .index + 1))
+  zeroed-zero : Zero (zeroed-box b) (b .collector .src + (b .collector .index + 1))
   zeroed-zero =
       record {
         above-top = λ a l. zeroed-other a (omega (arith, zeroed-below-top)) ∙ v .zero-words .above-top a l;
-        behind = λ a l u. cases a l u (ℕ-discrete a (b .state .src + b .state .index));
+        behind = λ a l u. cases a l u (ℕ-discrete a (b .collector .src + b .collector .index));
       }
     where
-      cases : (a : ℕ) → b .state .live ≤ a → a < b .state .src + (b .state .index + 1) → Dec (a ≡ b .state .src + b .state .index)
+      cases : (a : ℕ) → b .collector .live ≤ a → a < b .collector .src + (b .collector .index + 1) → Dec (a ≡ b .collector .src + b .collector .index)
           → word-at a (zeroed-box b) ≡ data-word 0
       cases a l u (yes e) = subst (λ (x : ℕ). word-at x (zeroed-box b) ≡ data-word 0) (sym e) zeroed-here
       cases a l u (no n) = zeroed-other a n ∙ v .zero-words .behind a l (omega arith)
 
   -- no word of a kept tuple is there
-  zeroed-apart : (h : ℕ) → Kept b (zero-ghosts b ds hs free .plan) h → (i : ℕ) → i ≤ size-of h b → address h b + i ≢ b .state .src + b .state .index
-  zeroed-apart h k i l = cases (kept-swept b (b .state .dest) (b .state .src + b .state .size + 1) ds hs (omega arith) h k)
+  zeroed-apart : (h : ℕ) → Kept b (zero-ghosts b ds hs free .plan) h → (i : ℕ) → i ≤ size-of h b → address h b + i ≢ b .collector .src + b .collector .index
+  zeroed-apart h k i l = cases (kept-swept b (b .collector .dest) (b .collector .src + b .collector .size + 1) ds hs (omega arith) h k)
     where
-      cases : Member h ds ⊎ (Member h hs × (marked h b ≡ true)) → address h b + i ≢ b .state .src + b .state .index
-      cases (inl x) = omega (arith, laid-bounds b 0 ds (b .state .dest) (v .layout .done-laid) h x)
-      cases (inr x) = omega (arith, laid-bounds b (b .state .src + b .state .size + 1) hs (b .state .top) (v .layout .ahead-laid) h (x .0))
+      cases : Member h ds ⊎ (Member h hs × (marked h b ≡ true)) → address h b + i ≢ b .collector .src + b .collector .index
+      cases (inl x) = omega (arith, laid-bounds b 0 ds (b .collector .dest) (v .layout .done-laid) h x)
+      cases (inr x) = omega (arith, laid-bounds b (b .collector .src + b .collector .size + 1) hs (b .top) (v .layout .ahead-laid) h (x .0))
 
   zeroed-quiet : Quiet b (zero-ghosts b ds hs free .plan) (zeroed-box b) (zero-ghosts b ds hs free .plan)
   zeroed-quiet =
@@ -84,7 +84,7 @@ module _ (b : Box) (ds hs free : List ℕ) (v : Inv b (zero-ghosts b ds hs free)
   zeroes-at : Next b (zero-ghosts b ds hs free) (zeroed-box b)
   zeroes-at =
       record {
-        ghosts = sweep-ghosts (b .state .dest) (b .state .src + b .state .size + 1) (b .state .src + (b .state .index + 1)) ds hs free;
+        ghosts = sweep-ghosts (b .collector .dest) (b .collector .src + b .collector .size + 1) (b .collector .src + (b .collector .index + 1)) ds hs free;
         inv = record {
           shape = shape-same b (zeroed-box b) zeroed-shape (v .shape);
           handles = handles-same b (zeroed-box b) (zero-ghosts b ds hs free .plan) free refl (v .handles .free-chain) (v .handles);
@@ -92,12 +92,12 @@ module _ (b : Box) (ds hs free : List ℕ) (v : Inv b (zero-ghosts b ds hs free)
           contents = quiet-contents b (zero-ghosts b ds hs free .plan) (zeroed-box b) (zero-ghosts b ds hs free .plan) zeroed-quiet (v .contents);
           zero-words = zeroed-zero;
           marks = marks-same b (zeroed-box b) (zero-ghosts b ds hs free .plan) free no-scans (λ h. refl) (λ h. refl) (λ h. refl) refl refl refl refl (λ l. l) (λ l. absurd (omega arith)) (v .marks);
-          stage = Stage.zeroing ph (unlisted (b .state .dest) (b .state .src + b .state .size + 1) (b .state .src + (b .state .index + 1)) ds hs free) refl refl refl order (omega arith) refl;
+          stage = Stage.zeroing ph (unlisted (b .collector .dest) (b .collector .src + b .collector .size + 1) (b .collector .src + (b .collector .index + 1)) ds hs free) refl refl refl order (omega arith) refl;
         };
         calm = quiet-calm b (zero-ghosts b ds hs free .plan) (zeroed-box b) (zero-ghosts b ds hs free .plan) zeroed-quiet;
       }
 
-pub zeroes : (b : Box) (g : Ghosts) → Inv b g → b .state .phase ≡ 8 → b .state .index ≤ b .state .size → Next b g (zeroed-box b)
+pub zeroes : (b : Box) (g : Ghosts) → Inv b g → b .collector .phase ≡ 8 → b .collector .index ≤ b .collector .size → Next b g (zeroed-box b)
 zeroes b g v ph turn =
     let s : Zeroed b g = zeroed-view b g v ph in
     next-at b g (zero-ghosts b (s .settled-tuples) (s .behind-it) (s .free-handles)) (zeroed-box b) (s .are) (zeroes-at b (s .settled-tuples) (s .behind-it) (s .free-handles) (s .inv) ph (s .dest-src) turn)
@@ -105,9 +105,9 @@ zeroes b g v ph turn =
 -- ---- behind the tuple the sweep goes on
 
 abbrev pub zero-on-box : Box → Box
-zero-on-box b = with-state (with-src (after b) (with-tuple (handle-of (word-at (after b) b)) (with-phase 4 (b .state)))) b
+zero-on-box b = with-src (after b) (with-tuple (handle-of (word-at (after b) b)) (with-phase 4 b))
 
-module _ (b : Box) (ds hs free : List ℕ) (v : Inv b (zero-ghosts b ds hs free)) (ph : b .state .phase ≡ 8) (through : b .state .index ≡ b .state .size + 1) (more : after b ≢ b .state .top) where
+module _ (b : Box) (ds hs free : List ℕ) (v : Inv b (zero-ghosts b ds hs free)) (ph : b .collector .phase ≡ 8) (through : b .collector .index ≡ b .collector .size + 1) (more : after b ≢ b .top) where
   zero-on-shape : SameShape b (zero-on-box b)
   zero-on-shape = search
 
@@ -116,15 +116,15 @@ module _ (b : Box) (ds hs free : List ℕ) (v : Inv b (zero-ghosts b ds hs free)
       plain-quiet b (zero-ghosts b ds hs free .plan) (zero-on-box b) (zero-ghosts b ds hs free .plan) (λ h i. word-late h i b (omega arith)) (λ h i. word-early h i (zero-on-box b) (omega arith)) (λ h. refl) (λ h. refl) (λ a. refl) (λ h. refl) (λ r. refl)
       (kept-same (zero-on-box b) b (zero-ghosts b ds hs free .plan) (λ l. absurd (omega arith)) (λ h m. m)) (kept-same b (zero-on-box b) (zero-ghosts b ds hs free .plan) (λ l. absurd (omega arith)) (λ h m. m))
 
-  zero-on-stage : Stage (zero-on-box b) (sweep-ghosts (b .state .dest) (after b) (after b) ds hs free)
+  zero-on-stage : Stage (zero-on-box b) (sweep-ghosts (b .collector .dest) (after b) (after b) ds hs free)
   zero-on-stage =
-      let n : (ks : List ℕ) × (hs ≡ handle-of (word-at (after b) b) ∷ ks) = next-tuple b (after b) hs (b .state .top) (v .layout .ahead-laid) more in
-      Stage.sweeping refl (unlisted (b .state .dest) (after b) (after b) ds hs free) refl refl refl refl (n .0) (n .1)
+      let n : (ks : List ℕ) × (hs ≡ handle-of (word-at (after b) b) ∷ ks) = next-tuple b (after b) hs (b .top) (v .layout .ahead-laid) more in
+      Stage.sweeping refl (unlisted (b .collector .dest) (after b) (after b) ds hs free) refl refl refl refl (n .0) (n .1)
 
   zero-on-at : Next b (zero-ghosts b ds hs free) (zero-on-box b)
   zero-on-at =
       record {
-        ghosts = sweep-ghosts (b .state .dest) (after b) (after b) ds hs free;
+        ghosts = sweep-ghosts (b .collector .dest) (after b) (after b) ds hs free;
         inv = record {
           shape = shape-same b (zero-on-box b) zero-on-shape (v .shape);
           handles = handles-same b (zero-on-box b) (zero-ghosts b ds hs free .plan) free refl (v .handles .free-chain) (v .handles);
@@ -137,26 +137,26 @@ module _ (b : Box) (ds hs free : List ℕ) (v : Inv b (zero-ghosts b ds hs free)
         calm = quiet-calm b (zero-ghosts b ds hs free .plan) (zero-on-box b) (zero-ghosts b ds hs free .plan) zero-on-quiet;
       }
 
-pub zero-on : (b : Box) (g : Ghosts) → Inv b g → b .state .phase ≡ 8 → b .state .size < b .state .index → after b ≢ b .state .top → Next b g (zero-on-box b)
+pub zero-on : (b : Box) (g : Ghosts) → Inv b g → b .collector .phase ≡ 8 → b .collector .size < b .collector .index → after b ≢ b .top → Next b g (zero-on-box b)
 zero-on b g v ph past more =
     let s : Zeroed b g = zeroed-view b g v ph in
-    let through : b .state .index ≡ b .state .size + 1 = omega (arith, s .index-most) in
+    let through : b .collector .index ≡ b .collector .size + 1 = omega (arith, s .index-most) in
     next-at b g (zero-ghosts b (s .settled-tuples) (s .behind-it) (s .free-handles)) (zero-on-box b) (s .are) (zero-on-at b (s .settled-tuples) (s .behind-it) (s .free-handles) (s .inv) ph through more)
 
 -- ---- it was the last: top is dest, and the cycle ends
 
-module _ (b : Box) (ds free : List ℕ) (v : Inv b (zero-ghosts b ds [] free)) (ph : b .state .phase ≡ 8) (order : b .state .dest ≤ b .state .src) (through : b .state .index ≡ b .state .size + 1) where
+module _ (b : Box) (ds free : List ℕ) (v : Inv b (zero-ghosts b ds [] free)) (ph : b .collector .phase ≡ 8) (order : b .collector .dest ≤ b .collector .src) (through : b .collector .index ≡ b .collector .size + 1) where
   zeroed-last-shape : SameShape b (zeroed-last-box b)
   zeroed-last-shape = search
 
   -- live is dest, and all from there on is data 0
-  zeroed-last-live : b .state .live ≡ b .state .dest
-  zeroed-last-live = omega (arith, live-swept b (b .state .dest) (b .state .src + b .state .size + 1) ds [] free (v .marks), marked-rooms-nil b)
+  zeroed-last-live : b .collector .live ≡ b .collector .dest
+  zeroed-last-live = omega (arith, live-swept b (b .collector .dest) (b .collector .src + b .collector .size + 1) ds [] free (v .marks), marked-rooms-nil b)
 
-  zeroed-last-above : (a : ℕ) → b .state .dest ≤ a → word-at a b ≡ data-word 0
-  zeroed-last-above a l = cases (decLt a (b .state .src + b .state .index))
+  zeroed-last-above : (a : ℕ) → b .collector .dest ≤ a → word-at a b ≡ data-word 0
+  zeroed-last-above a l = cases (decLt a (b .collector .src + b .collector .index))
     where
-      cases : Dec (a < b .state .src + b .state .index) → word-at a b ≡ data-word 0
+      cases : Dec (a < b .collector .src + b .collector .index) → word-at a b ≡ data-word 0
       cases (yes u) = v .zero-words .behind a (omega (arith, zeroed-last-live)) u
       cases (no n) = v .zero-words .above-top a (omega (arith, v .layout .ahead-laid))
 
@@ -185,7 +185,7 @@ module _ (b : Box) (ds free : List ℕ) (v : Inv b (zero-ghosts b ds [] free)) (
         finish = record {
           shape = shape-same b (zeroed-last-box b) zeroed-last-shape (v .shape);
           handles = handles-moved b (zeroed-last-box b) (zero-ghosts b ds [] free .plan) (resting-plan ds) free free (perm-refl (ds ++ free)) refl (v .handles .free-chain) (v .handles);
-          laid = laid-frame b (zeroed-last-box b) 0 ds (b .state .dest) (λ h x. refl) (λ h x. refl) (λ h x. refl) (v .layout .done-laid);
+          laid = laid-frame b (zeroed-last-box b) 0 ds (b .collector .dest) (λ h x. refl) (λ h x. refl) (λ h x. refl) (v .layout .done-laid);
           top-fits = omega (arith, order, v .layout .ahead-laid, v .layout .top-fits);
           contents = quiet-contents b (zero-ghosts b ds [] free .plan) (at-rest (zeroed-last-box b)) (resting-plan ds) zeroed-last-quiet (v .contents);
           above-top = zeroed-last-above;
@@ -197,11 +197,11 @@ module _ (b : Box) (ds free : List ℕ) (v : Inv b (zero-ghosts b ds [] free)) (
         calm = quiet-calm b (zero-ghosts b ds [] free .plan) (at-rest (zeroed-last-box b)) (resting-plan ds) zeroed-last-quiet;
       }
 
-pub zero-ends : (b : Box) (g : Ghosts) → Inv b g → b .state .phase ≡ 8 → b .state .size < b .state .index → after b ≡ b .state .top → Ended b g (zeroed-last-box b)
+pub zero-ends : (b : Box) (g : Ghosts) → Inv b g → b .collector .phase ≡ 8 → b .collector .size < b .collector .index → after b ≡ b .top → Ended b g (zeroed-last-box b)
 zero-ends b g v ph past last =
     let s : Zeroed b g = zeroed-view b g v ph in
-    let through : b .state .index ≡ b .state .size + 1 = omega (arith, s .index-most) in
-    let e : s .behind-it ≡ [] = laid-none b (after b) (s .behind-it) (b .state .top) (s .inv .layout .ahead-laid) last in
+    let through : b .collector .index ≡ b .collector .size + 1 = omega (arith, s .index-most) in
+    let e : s .behind-it ≡ [] = laid-none b (after b) (s .behind-it) (b .top) (s .inv .layout .ahead-laid) last in
     ended-at b g (zero-ghosts b (s .settled-tuples) [] (s .free-handles)) (zeroed-last-box b)
     (s .are ∙ ap (λ (hs : List ℕ). zero-ghosts b (s .settled-tuples) hs (s .free-handles)) e)
     (zero-ends-at b (s .settled-tuples) (s .free-handles) (subst (λ (hs : List ℕ). Inv b (zero-ghosts b (s .settled-tuples) hs (s .free-handles))) e (s .inv)) ph (s .dest-src) through)

@@ -7,12 +7,13 @@ use mathlib.Core.Logic.{_≢_, _⊎_, inl, inr}
 use mathlib.Core.Path.{_≡_, _∙_}
 use native.Mathlib.Omega.{arith}
 use borrow.Author.Tests.{ltb-true, not-true, lt-ltb, le-ltb, le-leb, lt-leb, eq-eqb, ne-eqb}
-use Rattle.memory.specs.declared.kinds.Request.{Request}
-use Rattle.memory.specs.declared.kinds.Request.the-variants.{Setd, Nil, Move, Advance, Getm, Load, Store, Size, Tag, Same}
-use Rattle.memory.specs.Limits.{half-word, register-count}
-use Rattle.memory.specs.Box.{Box, Word, Reply, reply, data-word, pointer, handle-of, offset-of, tag-of, is-nil, names-tuple, register, put-register, size-of, marked, set-deep, sound}
-use Rattle.memory.specs.Place.{Place, place, in-memory, read, write, can-shade, shade}
-use Rattle.memory.specs.Request.{new-tuple, hold, at-tuple, word-number, at-word, done, advance, getm, load, shades, shaded-first, deepened, store-word, store, size as size-rule, tag-at, tag as tag-rule, same-word, same, is-register, registers-right, carry-out, request}
+use Rattle.rules.specs.declared.kinds.Request.{Request}
+use Rattle.rules.specs.declared.kinds.Request.the-variants.{Setd, Nil, Move, Advance, Getm, Load, Store, Size, Tag, Same}
+use Rattle.rules.specs.Limits.{half-word, register-count}
+use Rattle.rules.specs.Parts.{Word, Box}
+use Rattle.rules.specs.Box.{Reply, reply, data-word, pointer, handle-of, offset-of, tag-of, is-nil, names-tuple, register, put-register, size-of, marked, set-deep, sound}
+use Rattle.rules.specs.Place.{Place, place, in-memory, read, write, can-shade, shade}
+use Rattle.rules.specs.Request.{new-tuple, hold, at-tuple, word-number, at-word, done, advance, getm, load, shades, shaded-first, deepened, store-word, store, size as size-rule, tag-at, tag as tag-rule, same-word, same, is-register, registers-right, carry-out, request}
 use Rattle.history.proofs.View.Tests.{and-left, and-right, le?, lt?, eq?, true?, Entry, entry?, entry-true, entry-false, Shading, shading, shaded, unshaded, shade-lost, shade-total, can-shade-marked, can-shade-unmarked, can-shade-lost, can-shade-total, shade-marked, NoRoom, Room, room?, no-room-true, no-room-false, can-make-rest, can-make-counted, can-make-lost, can-make-total}
 
 -- the tuple that a register points to, and the number of the word that its offset and k name
@@ -28,14 +29,14 @@ place-of s k b = place (named s b) (number s k b + 1) b
 
 -- the ways in which a request to a sound box that holds none answers 9
 pub data Loss (b : Box) : Type 0 where
-  free-lost : (n : ℕ) → n + 1 ≤ b .state .m → Room n b → ¬ Entry (b .state .free) b → Loss b
-  free-total : (n : ℕ) → n + 1 ≤ b .state .m → Room n b → Entry (b .state .free) b → b .state .phase ≢ 0
-      → b .state .m < b .state .live + n + 1 → Loss b
+  free-lost : (n : ℕ) → n + 1 ≤ b .m → Room n b → ¬ Entry (b .free) b → Loss b
+  free-total : (n : ℕ) → n + 1 ≤ b .m → Room n b → Entry (b .free) b → b .collector .phase ≢ 0
+      → b .m < b .collector .live + n + 1 → Loss b
   handle-lost : (s : ℕ) → s < register-count → names-tuple (register s b) ≡ true → ¬ Entry (named s b) b → Loss b
   place-past : (s : ℕ) → s < register-count → names-tuple (register s b) ≡ true → Entry (named s b) b
       → (i : ℕ) → i ≤ size-of (named s b) b → in-memory (place (named s b) i b) b ≡ false → Loss b
-  stored-total : (r : ℕ) → r < register-count → names-tuple (register r b) ≡ true → 1 ≤ b .state .phase → b .state .phase ≤ 3
-      → Entry (named r b) b → marked (named r b) b ≡ false → b .state .m < b .state .live + size-of (named r b) b + 1 → Loss b
+  stored-total : (r : ℕ) → r < register-count → names-tuple (register r b) ≡ true → 1 ≤ b .collector .phase → b .collector .phase ≤ 3
+      → Entry (named r b) b → marked (named r b) b ≡ false → b .m < b .collector .live + size-of (named r b) b + 1 → Loss b
 
 -- a register's tuple can be looked up and its word lies in memory
 pub record There (s k : ℕ) (b : Box) : Type 0 where
@@ -47,57 +48,57 @@ pub record There (s k : ℕ) (b : Box) : Type 0 where
 pub data Asked (b : Box) : Request → Type 0 where
   refuses-unsound : {q : Request} → sound b ≡ false → request q b ≡ reply b 9 → Asked b q
   refuses : {q : Request} (a : ℕ) → a ≢ 0 → a ≢ 7 → a ≢ 9 → request q b ≡ reply b a → Asked b q
-  refuses-lost : {q : Request} → sound b ≡ true → b .state .held ≡ false → Loss b → request q b ≡ reply b 9 → Asked b q
+  refuses-lost : {q : Request} → sound b ≡ true → b .hold .held ≡ false → Loss b → request q b ≡ reply b 9 → Asked b q
   -- 5, put on hold
-  holds : {r n t : ℕ} → sound b ≡ true → b .state .held ≡ false → r < register-count → n + 1 ≤ b .state .m → NoRoom n b
+  holds : {r n t : ℕ} → sound b ≡ true → b .hold .held ≡ false → r < register-count → n + 1 ≤ b .m → NoRoom n b
       → request (Getm r n t) b ≡ reply (hold r n t b) 7 → Asked b (Getm r n t)
   -- 1 to 4
-  sets-data : {r v : ℕ} → sound b ≡ true → b .state .held ≡ false → r < register-count
+  sets-data : {r v : ℕ} → sound b ≡ true → b .hold .held ≡ false → r < register-count
       → request (Setd r v) b ≡ done (put-register r (data-word v) b) → Asked b (Setd r v)
-  sets-nil : {r : ℕ} → sound b ≡ true → b .state .held ≡ false → r < register-count
+  sets-nil : {r : ℕ} → sound b ≡ true → b .hold .held ≡ false → r < register-count
       → request (Nil r) b ≡ done (put-register r (pointer 0 0) b) → Asked b (Nil r)
-  moves : {r s : ℕ} → sound b ≡ true → b .state .held ≡ false → r < register-count → s < register-count
+  moves : {r s : ℕ} → sound b ≡ true → b .hold .held ≡ false → r < register-count → s < register-count
       → request (Move r s) b ≡ done (put-register r (register s b) b) → Asked b (Move r s)
-  advances : {r n : ℕ} → sound b ≡ true → b .state .held ≡ false → r < register-count → register r b .flag ≡ true
+  advances : {r n : ℕ} → sound b ≡ true → b .hold .held ≡ false → r < register-count → register r b .flag ≡ true
       → offset-of (register r b) + n < half-word
       → request (Advance r n) b ≡ done (put-register r (pointer (named r b) (offset-of (register r b) + n)) b) → Asked b (Advance r n)
   -- 5, carried out
-  makes : {r n t : ℕ} → sound b ≡ true → b .state .held ≡ false → r < register-count → n + 1 ≤ b .state .m → b .state .free ≢ 0
-      → b .state .top + n + 1 ≤ b .state .m → Entry (b .state .free) b → (b .state .phase ≡ 0) ⊎ (b .state .live + n + 1 ≤ b .state .m)
+  makes : {r n t : ℕ} → sound b ≡ true → b .hold .held ≡ false → r < register-count → n + 1 ≤ b .m → b .free ≢ 0
+      → b .top + n + 1 ≤ b .m → Entry (b .free) b → (b .collector .phase ≡ 0) ⊎ (b .collector .live + n + 1 ≤ b .m)
       → request (Getm r n t) b ≡ done (new-tuple r n t b) → Asked b (Getm r n t)
   -- 6
-  loads : {r s k : ℕ} → sound b ≡ true → b .state .held ≡ false → r < register-count → s < register-count → There s k b
+  loads : {r s k : ℕ} → sound b ≡ true → b .hold .held ≡ false → r < register-count → s < register-count → There s k b
       → request (Load r s k) b ≡ done (put-register r (read (place-of s k b) b) b) → Asked b (Load r s k)
   -- 7: data or nil; a pointer outside marking; a pointer while marking, its tuple marked already or shaded now
-  stores-data : {r s k : ℕ} → sound b ≡ true → b .state .held ≡ false → r < register-count → s < register-count → There s k b
+  stores-data : {r s k : ℕ} → sound b ≡ true → b .hold .held ≡ false → r < register-count → s < register-count → There s k b
       → names-tuple (register r b) ≡ false
       → request (Store r s k) b ≡ done (write (place-of s k b) (register r b) b) → Asked b (Store r s k)
-  stores-late : {r s k : ℕ} → sound b ≡ true → b .state .held ≡ false → r < register-count → s < register-count → There s k b
-      → names-tuple (register r b) ≡ true → (b .state .phase ≡ 0) ⊎ (3 < b .state .phase)
+  stores-late : {r s k : ℕ} → sound b ≡ true → b .hold .held ≡ false → r < register-count → s < register-count → There s k b
+      → names-tuple (register r b) ≡ true → (b .collector .phase ≡ 0) ⊎ (3 < b .collector .phase)
       → request (Store r s k) b ≡ done (write (place-of s k b) (register r b) (set-deep (named s b) true b)) → Asked b (Store r s k)
-  stores-marked : {r s k : ℕ} → sound b ≡ true → b .state .held ≡ false → r < register-count → s < register-count → There s k b
-      → names-tuple (register r b) ≡ true → 1 ≤ b .state .phase → b .state .phase ≤ 3 → Entry (named r b) b → marked (named r b) b ≡ true
+  stores-marked : {r s k : ℕ} → sound b ≡ true → b .hold .held ≡ false → r < register-count → s < register-count → There s k b
+      → names-tuple (register r b) ≡ true → 1 ≤ b .collector .phase → b .collector .phase ≤ 3 → Entry (named r b) b → marked (named r b) b ≡ true
       → request (Store r s k) b ≡ done (write (place-of s k b) (register r b) (set-deep (named s b) true b)) → Asked b (Store r s k)
-  stores-unmarked : {r s k : ℕ} → sound b ≡ true → b .state .held ≡ false → r < register-count → s < register-count → There s k b
-      → names-tuple (register r b) ≡ true → 1 ≤ b .state .phase → b .state .phase ≤ 3 → Entry (named r b) b → marked (named r b) b ≡ false
-      → b .state .live + size-of (named r b) b + 1 ≤ b .state .m
+  stores-unmarked : {r s k : ℕ} → sound b ≡ true → b .hold .held ≡ false → r < register-count → s < register-count → There s k b
+      → names-tuple (register r b) ≡ true → 1 ≤ b .collector .phase → b .collector .phase ≤ 3 → Entry (named r b) b → marked (named r b) b ≡ false
+      → b .collector .live + size-of (named r b) b + 1 ≤ b .m
       → request (Store r s k) b ≡ done (write (place-of s k b) (register r b) (set-deep (named s b) true (shade (named r b) b))) → Asked b (Store r s k)
   -- 8
-  gives-size : {r s : ℕ} → sound b ≡ true → b .state .held ≡ false → r < register-count → s < register-count
+  gives-size : {r s : ℕ} → sound b ≡ true → b .hold .held ≡ false → r < register-count → s < register-count
       → names-tuple (register s b) ≡ true → Entry (named s b) b
       → request (Size r s) b ≡ done (put-register r (data-word (size-of (named s b) b)) b) → Asked b (Size r s)
-  gives-nil-size : {r s : ℕ} → sound b ≡ true → b .state .held ≡ false → r < register-count → s < register-count
+  gives-nil-size : {r s : ℕ} → sound b ≡ true → b .hold .held ≡ false → r < register-count → s < register-count
       → register s b .flag ≡ true → named s b ≡ 0
       → request (Size r s) b ≡ done (put-register r (data-word 0) b) → Asked b (Size r s)
   -- 9
-  gives-tag : {r s : ℕ} → sound b ≡ true → b .state .held ≡ false → r < register-count → s < register-count
+  gives-tag : {r s : ℕ} → sound b ≡ true → b .hold .held ≡ false → r < register-count → s < register-count
       → names-tuple (register s b) ≡ true → Entry (named s b) b → in-memory (place (named s b) 0 b) b ≡ true
       → request (Tag r s) b ≡ done (put-register r (data-word (tag-of (read (place (named s b) 0 b) b))) b) → Asked b (Tag r s)
-  gives-nil-tag : {r s : ℕ} → sound b ≡ true → b .state .held ≡ false → r < register-count → s < register-count
+  gives-nil-tag : {r s : ℕ} → sound b ≡ true → b .hold .held ≡ false → r < register-count → s < register-count
       → register s b .flag ≡ true → named s b ≡ 0
       → request (Tag r s) b ≡ done (put-register r (data-word 0) b) → Asked b (Tag r s)
   -- 10
-  compares : {r s t : ℕ} → sound b ≡ true → b .state .held ≡ false → r < register-count → s < register-count → t < register-count
+  compares : {r s t : ℕ} → sound b ≡ true → b .hold .held ≡ false → r < register-count → s < register-count → t < register-count
       → request (Same r s t) b ≡ done (put-register r (data-word (cond (same-word (register s b) (register t b)) 1 0)) b) → Asked b (Same r s t)
 
 -- ---- a pointer's tuple and word
@@ -158,29 +159,29 @@ word-beyond h n b l f = simp (le-ltb n (size-of h b) l)
 
 data Stored (w : Word) (b : Box) : Type 0 where
   as-data : names-tuple w ≡ false → Stored w b
-  as-late : names-tuple w ≡ true → (b .state .phase ≡ 0) ⊎ (3 < b .state .phase) → Stored w b
-  as-early : names-tuple w ≡ true → 1 ≤ b .state .phase → b .state .phase ≤ 3 → Shading (handle-of w) b → Stored w b
+  as-late : names-tuple w ≡ true → (b .collector .phase ≡ 0) ⊎ (3 < b .collector .phase) → Stored w b
+  as-early : names-tuple w ≡ true → 1 ≤ b .collector .phase → b .collector .phase ≤ 3 → Shading (handle-of w) b → Stored w b
 
 stored : (w : Word) (b : Box) → Stored w b
 stored w b = by-name (true? (names-tuple w))
   where
-    by-phase : names-tuple w ≡ true → (1 ≤ b .state .phase) ⊎ (b .state .phase < 1) → (b .state .phase ≤ 3) ⊎ (3 < b .state .phase) → Stored w b
+    by-phase : names-tuple w ≡ true → (1 ≤ b .collector .phase) ⊎ (b .collector .phase < 1) → (b .collector .phase ≤ 3) ⊎ (3 < b .collector .phase) → Stored w b
     by-phase n (inl l) (inl u) = as-early n l u (shading (handle-of w) b)
     by-phase n (inl l) (inr u) = as-late n (inr u)
     by-phase n (inr l) u = as-late n (inl (omega arith))
 
     by-name : (names-tuple w ≡ true) ⊎ (names-tuple w ≡ false) → Stored w b
-    by-name (inl n) = by-phase n (le? 1 (b .state .phase)) (le? (b .state .phase) 3)
+    by-name (inl n) = by-phase n (le? 1 (b .collector .phase)) (le? (b .collector .phase) 3)
     by-name (inr n) = as-data n
 
-shades-late : (w : Word) (b : Box) → names-tuple w ≡ true → (b .state .phase ≡ 0) ⊎ (3 < b .state .phase) → shades w b ≡ false
+shades-late : (w : Word) (b : Box) → names-tuple w ≡ true → (b .collector .phase ≡ 0) ⊎ (3 < b .collector .phase) → shades w b ≡ false
 unfolding shades
-shades-late w b n (inl z) = simp (n, lt-leb 1 (b .state .phase) (omega arith))
-shades-late w b n (inr l) = simp (n, le-leb 1 (b .state .phase) (omega arith), lt-leb (b .state .phase) 3 l)
+shades-late w b n (inl z) = simp (n, lt-leb 1 (b .collector .phase) (omega arith))
+shades-late w b n (inr l) = simp (n, le-leb 1 (b .collector .phase) (omega arith), lt-leb (b .collector .phase) 3 l)
 
-shades-early : (w : Word) (b : Box) → names-tuple w ≡ true → 1 ≤ b .state .phase → b .state .phase ≤ 3 → shades w b ≡ true
+shades-early : (w : Word) (b : Box) → names-tuple w ≡ true → 1 ≤ b .collector .phase → b .collector .phase ≤ 3 → shades w b ≡ true
 unfolding shades
-shades-early w b n l u = simp (n, le-leb 1 (b .state .phase) l, le-leb (b .state .phase) 3 u)
+shades-early w b n l u = simp (n, le-leb 1 (b .collector .phase) l, le-leb (b .collector .phase) 3 u)
 
 store-data : (w : Word) (h : ℕ) (p : Place) (b : Box) → names-tuple w ≡ false → store-word w h p b ≡ done (write p w b)
 unfolding store-word shades shaded-first deepened
@@ -204,7 +205,7 @@ store-nine w h p b l c = simp (l, c)
 -- what every kind is given: the request comes to its rule
 record Reached (q : Request) (b : Box) : Type 0 where
   sound-is : sound b ≡ true
-  free-is : b .state .held ≡ false
+  free-is : b .hold .held ≡ false
   rule : request q b ≡ carry-out q b
 
 advance-view : (r n : ℕ) (b : Box) → Reached (Advance r n) b → r < register-count → Asked b (Advance r n)
@@ -221,36 +222,36 @@ advance-view r n b q l = by-flag (true? (register r b .flag))
 
 getm-view : (r n t : ℕ) (b : Box) → Reached (Getm r n t) b → r < register-count → Asked b (Getm r n t)
 unfolding carry-out getm
-getm-view r n t b q l = by-size (le? (n + 1) (b .state .m))
+getm-view r n t b q l = by-size (le? (n + 1) (b .m))
   where
-    by-total : n + 1 ≤ b .state .m → Room n b → Entry (b .state .free) b → b .state .phase ≢ 0
-        → (b .state .live + n + 1 ≤ b .state .m) ⊎ (b .state .m < b .state .live + n + 1) → Asked b (Getm r n t)
+    by-total : n + 1 ≤ b .m → Room n b → Entry (b .free) b → b .collector .phase ≢ 0
+        → (b .collector .live + n + 1 ≤ b .m) ⊎ (b .m < b .collector .live + n + 1) → Asked b (Getm r n t)
     by-total z m e p (inl v) =
         makes (q .sound-is) (q .free-is) l z (m .0) (m .1) e (inr v)
-        (q .rule ∙ simp (le-leb (n + 1) (b .state .m) z, no-room-false n b m, can-make-counted n b e p v))
+        (q .rule ∙ simp (le-leb (n + 1) (b .m) z, no-room-false n b m, can-make-counted n b e p v))
     by-total z m e p (inr v) =
         refuses-lost (q .sound-is) (q .free-is) (free-total n z m e p v)
-        (q .rule ∙ simp (le-leb (n + 1) (b .state .m) z, no-room-false n b m, can-make-total n b e p v))
+        (q .rule ∙ simp (le-leb (n + 1) (b .m) z, no-room-false n b m, can-make-total n b e p v))
 
-    by-phase : n + 1 ≤ b .state .m → Room n b → Entry (b .state .free) b → (b .state .phase ≡ 0) ⊎ (b .state .phase ≢ 0) → Asked b (Getm r n t)
+    by-phase : n + 1 ≤ b .m → Room n b → Entry (b .free) b → (b .collector .phase ≡ 0) ⊎ (b .collector .phase ≢ 0) → Asked b (Getm r n t)
     by-phase z m e (inl p) =
         makes (q .sound-is) (q .free-is) l z (m .0) (m .1) e (inl p)
-        (q .rule ∙ simp (le-leb (n + 1) (b .state .m) z, no-room-false n b m, can-make-rest n b e p))
-    by-phase z m e (inr p) = by-total z m e p (le? (b .state .live + n + 1) (b .state .m))
+        (q .rule ∙ simp (le-leb (n + 1) (b .m) z, no-room-false n b m, can-make-rest n b e p))
+    by-phase z m e (inr p) = by-total z m e p (le? (b .collector .live + n + 1) (b .m))
 
-    by-entry : n + 1 ≤ b .state .m → Room n b → Entry (b .state .free) b ⊎ (¬ Entry (b .state .free) b) → Asked b (Getm r n t)
-    by-entry z m (inl e) = by-phase z m e (eq? (b .state .phase) 0)
+    by-entry : n + 1 ≤ b .m → Room n b → Entry (b .free) b ⊎ (¬ Entry (b .free) b) → Asked b (Getm r n t)
+    by-entry z m (inl e) = by-phase z m e (eq? (b .collector .phase) 0)
     by-entry z m (inr e) =
         refuses-lost (q .sound-is) (q .free-is) (free-lost n z m e)
-        (q .rule ∙ simp (le-leb (n + 1) (b .state .m) z, no-room-false n b m, can-make-lost n b e))
+        (q .rule ∙ simp (le-leb (n + 1) (b .m) z, no-room-false n b m, can-make-lost n b e))
 
-    by-room : n + 1 ≤ b .state .m → NoRoom n b ⊎ Room n b → Asked b (Getm r n t)
-    by-room z (inl m) = holds (q .sound-is) (q .free-is) l z m (q .rule ∙ simp (le-leb (n + 1) (b .state .m) z, no-room-true n b m))
-    by-room z (inr m) = by-entry z m (entry? (b .state .free) b)
+    by-room : n + 1 ≤ b .m → NoRoom n b ⊎ Room n b → Asked b (Getm r n t)
+    by-room z (inl m) = holds (q .sound-is) (q .free-is) l z m (q .rule ∙ simp (le-leb (n + 1) (b .m) z, no-room-true n b m))
+    by-room z (inr m) = by-entry z m (entry? (b .free) b)
 
-    by-size : (n + 1 ≤ b .state .m) ⊎ (b .state .m < n + 1) → Asked b (Getm r n t)
+    by-size : (n + 1 ≤ b .m) ⊎ (b .m < n + 1) → Asked b (Getm r n t)
     by-size (inl z) = by-room z (room? n b)
-    by-size (inr z) = refuses 5 (omega arith) (omega arith) (omega arith) (q .rule ∙ simp (lt-leb (n + 1) (b .state .m) z))
+    by-size (inr z) = refuses 5 (omega arith) (omega arith) (omega arith) (q .rule ∙ simp (lt-leb (n + 1) (b .m) z))
 
 load-view : (r s k : ℕ) (b : Box) → Reached (Load r s k) b → r < register-count → s < register-count → Asked b (Load r s k)
 unfolding carry-out load word-number
@@ -379,12 +380,12 @@ pub asked : (q : Request) (b : Box) → Asked b q
 unfolding request
 asked q b = by-sound (true? (sound b))
   where
-    by-held : sound b ≡ true → registers-right q ≡ true → (b .state .held ≡ true) ⊎ (b .state .held ≡ false) → Asked b q
+    by-held : sound b ≡ true → registers-right q ≡ true → (b .hold .held ≡ true) ⊎ (b .hold .held ≡ false) → Asked b q
     by-held s g (inl h) = refuses {q = q} 6 (omega arith) (omega arith) (omega arith) (simp (s, g, h))
     by-held s g (inr f) = kind-view q b g (record { sound-is = s; free-is = f; rule = simp (s, g, f) })
 
     by-registers : sound b ≡ true → (registers-right q ≡ true) ⊎ (registers-right q ≡ false) → Asked b q
-    by-registers s (inl g) = by-held s g (true? (b .state .held))
+    by-registers s (inl g) = by-held s g (true? (b .hold .held))
     by-registers s (inr g) = refuses {q = q} 1 (omega arith) (omega arith) (omega arith) (simp (s, g))
 
     by-sound : (sound b ≡ true) ⊎ (sound b ≡ false) → Asked b q

@@ -5,7 +5,7 @@ use native.Mathlib.Omega.{arith}
 use mathlib.Core.Path.{_≡_, refl, _∙_, ap}
 use borrow.Author.Count.{below-none}
 use lib.ListN.{length, length-set, getD}
-use Rattle.memory.specs.Open.{opened-link}
+use Rattle.rules.specs.Open.{opened-link}
 use Rattle.memory.proofs.Fills.{fill-more, links-all}
 use Rattle.memory.proofs.opening.link_all.Statement.{statement}
 use Rattle.memory.proofs.opening.link_all.Tie as tie

@@ -3,7 +3,8 @@ use mathlib.Core.Bool.{true}
 use mathlib.Core.Path.{_≡_, refl}
 use denote.Ref.{now}
 use lib.ListN.{length}
-use Rattle.memory.specs.Box.{Box, right-sizes}
+use Rattle.rules.specs.Parts.{Box}
+use Rattle.rules.specs.Box.{right-sizes}
 use Rattle.memory.specs.Boxed.{boxed}
 use Rattle.memory.proofs.Bounds.{at-most, tested}
 use Rattle.memory.proofs.Sizes.{sizes-lengths, sizes-ranges}
@@ -74,7 +75,7 @@ returns c =
     let right = tested y (right-sizes (a .m) (a .h) b) true e (c .before .before .before .before .before .before .before .before .before .before .before .before .before .before .before .before .before .before .before .before .before .before .before .before .before .before .before .before .before .if1 .taken) in
     let x : Box = boxed (c .before .before .before .before .before .before .before .before .before .before .before .before .before .before .before .before .before .before .before .before .before .before .before .before .before .before .before .clear .last .0) (c .before .before .before .before .before .before .before .before .before .before .before .before .before .before .before .before .before .before .before .before .before .before .before .unset .last .0) (c .before .before .before .before .before .before .before .before .before .before .before .before .before .before .before .before .before .before .before .clear2 .last .0) (c .before .before .before .before .before .before .before .before .before .before .before .before .before .before .before .clear3 .last .0) (c .before .before .before .before .before .before .before .before .before .before .before .link-all .last .0) (c .before .before .before .before .before .before .before .unset2 .last .0) (c .before .before .before .unset3 .last .0) (c .new-state .result) in
     open-done (a .m) (a .h) b y e x (c .before .before .before .before .before .before .before .before .before .before .before .before .before .before .before .before .before .before .before .before .before .before .before .before .before .before .before .before .before .if1 .taken)
-    (opened-whole (a .m) (a .h) b (sizes-lengths (a .m) (a .h) b right) (c .before .before .before .before .before .before .before .before .before .before .before .before .before .before .before .before .before .before .before .before .before .before .before .before .before .before .before .clear .last .0) (c .before .before .before .before .before .before .before .before .before .before .before .before .before .before .before .before .before .before .before .before .before .before .before .unset .last .0) (c .before .before .before .before .before .before .before .before .before .before .before .before .before .before .before .before .before .before .before .clear2 .last .0) (c .before .before .before .before .before .before .before .before .before .before .before .before .before .before .before .clear3 .last .0) (c .before .before .before .before .before .before .before .before .before .before .before .link-all .last .0) (c .before .before .before .before .before .before .before .unset2 .last .0) (c .before .before .before .unset3 .last .0) (c .new-state .result) (c .before .before .before .before .before .before .before .before .before .before .before .before .before .before .before .before .before .before .before .before .before .before .before .before .before .before .before .clear .ensures) (c .before .before .before .before .before .before .before .before .before .before .before .before .before .before .before .before .before .before .before .before .before .before .before .unset .ensures) (c .before .before .before .before .before .before .before .before .before .before .before .before .before .before .before .before .before .before .before .clear2 .ensures) (c .before .before .before .before .before .before .before .before .before .before .before .before .before .before .before .clear3 .ensures) (c .before .before .before .before .before .before .before .before .before .before .before .link-all .ensures) (c .before .before .before .before .before .before .before .unset2 .ensures) (c .before .before .before .unset3 .ensures) (c .new-state .ensures))
+    (opened-whole (a .m) (a .h) b (sizes-lengths (a .m) (a .h) b right) (c .before .before .before .before .before .before .before .before .before .before .before .before .before .before .before .before .before .before .before .before .before .before .before .before .before .before .before .clear .last .0) (c .before .before .before .before .before .before .before .before .before .before .before .before .before .before .before .before .before .before .before .before .before .before .before .unset .last .0) (c .before .before .before .before .before .before .before .before .before .before .before .before .before .before .before .before .before .before .before .clear2 .last .0) (c .before .before .before .before .before .before .before .before .before .before .before .before .before .before .before .clear3 .last .0) (c .before .before .before .before .before .before .before .before .before .before .before .link-all .last .0) (c .before .before .before .before .before .before .before .unset2 .last .0) (c .before .before .before .unset3 .last .0) (c .new-state .result) (c .before .before .before .before .before .before .before .before .before .before .before .before .before .before .before .before .before .before .before .before .before .before .before .before .before .before .before .clear .ensures) (c .before .before .before .before .before .before .before .before .before .before .before .before .before .before .before .before .before .before .before .before .before .before .before .unset .ensures) (c .before .before .before .before .before .before .before .before .before .before .before .before .before .before .before .before .before .before .before .clear2 .ensures) (c .before .before .before .before .before .before .before .before .before .before .before .before .before .before .before .clear3 .ensures) (c .before .before .before .before .before .before .before .before .before .before .before .link-all .ensures) (c .before .before .before .before .before .before .before .unset2 .ensures) (c .before .before .before .unset3 .ensures) (c .new-state .ensures (x .memory .words) (x .memory .flags) (x .directory .addresses) (x .directory .sizes) (x .directory .links) (x .directory .marks) (x .directory .deeps)))
 
 returns-2 : tie.Need-returns-2
 returns-2 c =

@@ -1,6 +1,5 @@
 -- `refusal` meets its contract: each return is a case of what refuses a request. Assumes nothing.
-use mathlib.Core.Path.{ap, _∙_}
-use Rattle.memory.specs.declared.state.State.{State}
+use mathlib.Core.Path.{_∙_}
 use Rattle.memory.proofs.Carrying.{refusal-unsound, refusal-register, refusal-held, refusal-none}
 use borrow.Author.Needs.{needs}
 use Rattle.memory.proofs.requests.refusal.Statement.{statement}
@@ -13,16 +12,16 @@ registers-right-requires : tie.Need-registers-right-requires
 registers-right-requires c κs = tt
 
 returns : tie.Need-returns
-returns c b e q = refusal-held (c .before .before .before .before .before .args .q) b (c .before .before .before .before .sound .result) (c .before .before .registers-right .result) (c .before .before .before .before .sound .ensures b e q) (c .before .before .before .if1 .taken) (c .before .before .registers-right .ensures) (c .before .if2 .taken) (ap (λ (x : State). x .held) e ∙ c .if3 .taken)
+returns c b m h e d q = refusal-held (c .before .before .before .before .before .args .q) b (c .before .before .before .before .sound .result) (c .before .before .registers-right .result) (c .before .before .before .before .sound .ensures b m h e q) (c .before .before .before .if1 .taken) (c .before .before .registers-right .ensures) (c .before .if2 .taken) (d ∙ c .if3 .taken)
 
 returns-2 : tie.Need-returns-2
-returns-2 c b e q = refusal-none (c .before .before .before .before .before .args .q) b (c .before .before .before .before .sound .result) (c .before .before .registers-right .result) (c .before .before .before .before .sound .ensures b e q) (c .before .before .before .if1 .taken) (c .before .before .registers-right .ensures) (c .before .if2 .taken) (ap (λ (x : State). x .held) e ∙ c .if3 .left)
+returns-2 c b m h e d q = refusal-none (c .before .before .before .before .before .args .q) b (c .before .before .before .before .sound .result) (c .before .before .registers-right .result) (c .before .before .before .before .sound .ensures b m h e q) (c .before .before .before .if1 .taken) (c .before .before .registers-right .ensures) (c .before .if2 .taken) (d ∙ c .if3 .left)
 
 returns-3 : tie.Need-returns-3
-returns-3 c b e q = refusal-register (c .before .before .before .before .args .q) b (c .before .before .before .sound .result) (c .before .registers-right .result) (c .before .before .before .sound .ensures b e q) (c .before .before .if1 .taken) (c .before .registers-right .ensures) (c .if2 .left)
+returns-3 c b m h e d q = refusal-register (c .before .before .before .before .args .q) b (c .before .before .before .sound .result) (c .before .registers-right .result) (c .before .before .before .sound .ensures b m h e q) (c .before .before .if1 .taken) (c .before .registers-right .ensures) (c .if2 .left)
 
 returns-4 : tie.Need-returns-4
-returns-4 c b e q = refusal-unsound (c .before .before .args .q) b (c .before .sound .result) (c .before .sound .ensures b e q) (c .if1 .left)
+returns-4 c b m h e d q = refusal-unsound (c .before .before .args .q) b (c .before .sound .result) (c .before .sound .ensures b m h e q) (c .if1 .left)
 
 pub refusal-spec : {M : Type 1} → statement M
 refusal-spec =

@@ -1,7 +1,8 @@
 -- `requests::request` meets its contract: by what refuses the request, and then by its kind. Assumes nothing.
 use mathlib.Core.Path.{refl}
 use denote.Ref.{now}
-use Rattle.memory.specs.Box.{Box, Reply, reply}
+use Rattle.rules.specs.Parts.{Box}
+use Rattle.rules.specs.Box.{Reply, reply}
 use Rattle.memory.specs.Boxed.{boxed}
 use Rattle.memory.proofs.Sizes.{sound-lengths}
 use Rattle.memory.proofs.Carrying.{not-refused, carried, refused, not-getm, not-store, right-getm, right-store, does-getm, does-store}
@@ -15,7 +16,7 @@ returns : tie.Need-returns
 returns c =
     let a = c .before .before .before .before .before .before .before .before .before .args in
     let b : Box = boxed (now (a .words)) (now (a .flags)) (now (a .addresses)) (now (a .sizes)) (now (a .links)) (now (a .marks)) (now (a .deeps)) (a .s) in
-    refused (a .q) b (c .before .refusal .result) (c .before .refusal .ensures b refl (refl, refl, refl, refl, refl, refl, refl)) (c .if1 .taken)
+    refused (a .q) b (c .before .refusal .result) (c .before .refusal .ensures b refl refl refl refl (refl, refl, refl, refl, refl, refl, refl)) (c .if1 .taken)
 
 enum-known-q : tie.Need-enum-known-q
 enum-known-q c = c .match .keys1
@@ -24,7 +25,7 @@ getm-requires : tie.Need-getm-requires
 getm-requires c κs =
     let a = c .before .before .before .before .before .before .before .before .before .before .before .before .before .before .before .before .before .before .before .args in
     let b : Box = boxed (now (a .words)) (now (a .flags)) (now (a .addresses)) (now (a .sizes)) (now (a .links)) (now (a .marks)) (now (a .deeps)) (a .s) in
-    let k = not-refused (a .q) b (c .before .before .before .before .before .before .before .before .before .before .before .refusal .result) (c .before .before .before .before .before .before .before .before .before .before .before .refusal .ensures b refl (refl, refl, refl, refl, refl, refl, refl)) (c .before .before .before .before .before .before .before .before .before .before .if1 .left) in
+    let k = not-refused (a .q) b (c .before .before .before .before .before .before .before .before .before .before .before .refusal .result) (c .before .before .before .before .before .before .before .before .before .before .before .refusal .ensures b refl refl refl refl (refl, refl, refl, refl, refl, refl, refl)) (c .before .before .before .before .before .before .before .before .before .before .if1 .left) in
     (k .0, right-getm (a .q) _ _ _ (c .before .before .before .before .before .before .before .before .q .given .1) (k .1))
 
 enum-known-q-2 : tie.Need-enum-known-q-2
@@ -34,7 +35,7 @@ store-requires : tie.Need-store-requires
 store-requires c κs =
     let a = c .before .before .before .before .before .before .before .before .before .before .before .before .before .before .before .before .before .before .before .args in
     let b : Box = boxed (now (a .words)) (now (a .flags)) (now (a .addresses)) (now (a .sizes)) (now (a .links)) (now (a .marks)) (now (a .deeps)) (a .s) in
-    let k = not-refused (a .q) b (c .before .before .before .before .before .before .before .before .before .before .before .refusal .result) (c .before .before .before .before .before .before .before .before .before .before .before .refusal .ensures b refl (refl, refl, refl, refl, refl, refl, refl)) (c .before .before .before .before .before .before .before .before .before .before .if1 .left) in
+    let k = not-refused (a .q) b (c .before .before .before .before .before .before .before .before .before .before .before .refusal .result) (c .before .before .before .before .before .before .before .before .before .before .before .refusal .ensures b refl refl refl refl (refl, refl, refl, refl, refl, refl, refl)) (c .before .before .before .before .before .before .before .before .before .before .if1 .left) in
     let g = right-store (a .q) _ _ _ (c .before .before .before .before .before .before .before .before .q2 .given .1) (k .1) in
     (k .0, g .0, g .1)
 
@@ -42,7 +43,7 @@ carry-out-requires : tie.Need-carry-out-requires
 carry-out-requires c κs =
     let a = c .before .before .before .before .before .before .before .before .before .before .before .before .before .before .args in
     let b : Box = boxed (now (a .words)) (now (a .flags)) (now (a .addresses)) (now (a .sizes)) (now (a .links)) (now (a .marks)) (now (a .deeps)) (a .s) in
-    let k = not-refused (a .q) b (c .before .before .before .before .before .before .refusal .result) (c .before .before .before .before .before .before .refusal .ensures b refl (refl, refl, refl, refl, refl, refl, refl)) (c .before .before .before .before .before .if1 .left) in
+    let k = not-refused (a .q) b (c .before .before .before .before .before .before .refusal .result) (c .before .before .before .before .before .before .refusal .ensures b refl refl refl refl (refl, refl, refl, refl, refl, refl, refl)) (c .before .before .before .before .before .if1 .left) in
     let l = sound-lengths b (k .0) in
     let o = c .before .before .before .before .match .keys3 in
     (l .words, l .flags, l .addresses, l .sizes, k .1, not-getm (a .q) o, not-store (a .q) o)
@@ -74,7 +75,7 @@ returns-2 c =
     let b : Box = boxed (now (a .words)) (now (a .flags)) (now (a .addresses)) (now (a .sizes)) (now (a .links)) (now (a .marks)) (now (a .deeps)) (a .s) in
     let k = c .before .before .before .before .before .before .before .before .before .before .before .before .getm in
     let x : Reply = reply (boxed (k .last .1 .1 .1 .1 .0) (k .last .1 .1 .1 .1 .1 .0) (k .last .1 .1 .1 .1 .1 .1 .0) (k .last .1 .1 .1 .1 .1 .1 .1 .0) (now (a .links)) (k .last .1 .1 .1 .1 .1 .1 .1 .1 .1 .0) (k .last .1 .1 .1 .1 .1 .1 .1 .1 .1 .1 .0) (k .result .state)) (k .result .answer) in
-    carried (a .q) b (c .before .before .before .before .before .before .before .before .before .before .before .before .before .before .before .before .before .before .before .before .before .before .before .before .refusal .result) x (c .before .before .before .before .before .before .before .before .before .before .before .before .before .before .before .before .before .before .before .before .before .before .before .before .refusal .ensures b refl (refl, refl, refl, refl, refl, refl, refl)) (c .before .before .before .before .before .before .before .before .before .before .before .before .before .before .before .before .before .before .before .before .before .before .before .if1 .left) (does-getm (a .q) _ _ _ (c .before .before .before .before .before .before .before .before .before .before .before .before .before .before .before .before .before .before .before .before .before .q .given .1) b x (k .ensures))
+    carried (a .q) b (c .before .before .before .before .before .before .before .before .before .before .before .before .before .before .before .before .before .before .before .before .before .before .before .before .refusal .result) x (c .before .before .before .before .before .before .before .before .before .before .before .before .before .before .before .before .before .before .before .before .before .before .before .before .refusal .ensures b refl refl refl refl (refl, refl, refl, refl, refl, refl, refl)) (c .before .before .before .before .before .before .before .before .before .before .before .before .before .before .before .before .before .before .before .before .before .before .before .if1 .left) (does-getm (a .q) _ _ _ (c .before .before .before .before .before .before .before .before .before .before .before .before .before .before .before .before .before .before .before .before .before .q .given .1) b x (k .ensures))
 
 same-length-8 : tie.Need-same-length-8
 same-length-8 c = c .before .before .before .before .before .before .before .before .before .before .store .kept .1 .1 .1 .1 .0
@@ -103,7 +104,7 @@ returns-3 c =
     let b : Box = boxed (now (a .words)) (now (a .flags)) (now (a .addresses)) (now (a .sizes)) (now (a .links)) (now (a .marks)) (now (a .deeps)) (a .s) in
     let k = c .before .before .before .before .before .before .before .before .before .before .store in
     let x : Reply = reply (boxed (k .last .1 .1 .1 .1 .0) (k .last .1 .1 .1 .1 .1 .0) (now (a .addresses)) (now (a .sizes)) (k .last .1 .1 .1 .1 .1 .1 .1 .1 .0) (k .last .1 .1 .1 .1 .1 .1 .1 .1 .1 .0) (k .last .1 .1 .1 .1 .1 .1 .1 .1 .1 .1 .0) (k .result .state)) (k .result .answer) in
-    carried (a .q) b (c .before .before .before .before .before .before .before .before .before .before .before .before .before .before .before .before .before .before .before .before .before .before .refusal .result) x (c .before .before .before .before .before .before .before .before .before .before .before .before .before .before .before .before .before .before .before .before .before .before .refusal .ensures b refl (refl, refl, refl, refl, refl, refl, refl)) (c .before .before .before .before .before .before .before .before .before .before .before .before .before .before .before .before .before .before .before .before .before .if1 .left) (does-store (a .q) _ _ _ (c .before .before .before .before .before .before .before .before .before .before .before .before .before .before .before .before .before .before .before .q2 .given .1) b x (k .ensures))
+    carried (a .q) b (c .before .before .before .before .before .before .before .before .before .before .before .before .before .before .before .before .before .before .before .before .before .before .refusal .result) x (c .before .before .before .before .before .before .before .before .before .before .before .before .before .before .before .before .before .before .before .before .before .before .refusal .ensures b refl refl refl refl (refl, refl, refl, refl, refl, refl, refl)) (c .before .before .before .before .before .before .before .before .before .before .before .before .before .before .before .before .before .before .before .before .before .if1 .left) (does-store (a .q) _ _ _ (c .before .before .before .before .before .before .before .before .before .before .before .before .before .before .before .before .before .before .before .q2 .given .1) b x (k .ensures))
 
 same-length-15 : tie.Need-same-length-15
 same-length-15 c = refl
@@ -123,7 +124,7 @@ returns-4 c =
     let b : Box = boxed (now (a .words)) (now (a .flags)) (now (a .addresses)) (now (a .sizes)) (now (a .links)) (now (a .marks)) (now (a .deeps)) (a .s) in
     let k = c .carry-out in
     let x : Reply = reply (boxed (now (a .words)) (now (a .flags)) (now (a .addresses)) (now (a .sizes)) (now (a .links)) (now (a .marks)) (now (a .deeps)) (k .result .state)) (k .result .answer) in
-    carried (a .q) b (c .before .before .before .before .before .before .before .refusal .result) x (c .before .before .before .before .before .before .before .refusal .ensures b refl (refl, refl, refl, refl, refl, refl, refl)) (c .before .before .before .before .before .before .if1 .left) (k .ensures (now (a .links)) (now (a .marks)) (now (a .deeps)))
+    carried (a .q) b (c .before .before .before .before .before .before .before .refusal .result) x (c .before .before .before .before .before .before .before .refusal .ensures b refl refl refl refl (refl, refl, refl, refl, refl, refl, refl)) (c .before .before .before .before .before .before .if1 .left) (k .ensures (now (a .links)) (now (a .marks)) (now (a .deeps)))
 
 pub request-spec : {M : Type 1} → statement M
 request-spec =

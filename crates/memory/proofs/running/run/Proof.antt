@@ -3,9 +3,9 @@
 use Prim.Native.Nat.{ℕ, _+_, _^_, _≤_, _<_}
 use mathlib.Core.Path.{_≡_, refl, _∙_}
 use lib.ListN.{length}
-use Rattle.memory.specs.Box.{Box}
+use Rattle.rules.specs.Parts.{Box}
 use Rattle.memory.specs.Boxed.{boxed}
-use Rattle.memory.specs.Run.{run}
+use Rattle.rules.specs.Run.{run}
 use Rattle.memory.proofs.Runs.{on, on-starts, on-turn, on-ends, on-fits, start-fits, room-left}
 use Rattle.memory.proofs.running.run.Statement.{statement}
 use Rattle.memory.proofs.running.run.Tie as tie
@@ -31,7 +31,7 @@ loop-holds c =
     let x = c .before .before .before .before .before .before .before .before .before .before .args in
     let b : Box = boxed (x .words .now) (x .flags .now) (x .addresses .now) (x .sizes .now) (x .links .now) (x .marks .now) (x .deeps .now) (x .s) in
     let l = start-fits (x .budget) (c .before .before .sound .result) (c .before .choose .result) (c .before .choose .ensures) in
-    (l, refl, refl, refl, refl, refl, refl, refl, on-starts (x .budget) b (c .before .before .sound .result) (c .before .choose .result) (c .choose2 .result) (c .before .before .sound .ensures b refl (refl, refl, refl, refl, refl, refl, refl)) (c .before .choose .ensures) (c .choose2 .ensures))
+    (l, refl, refl, refl, refl, refl, refl, refl, on-starts (x .budget) b (c .before .before .sound .result) (c .before .choose .result) (c .choose2 .result) (c .before .before .sound .ensures b refl refl refl (refl, refl, refl, refl, refl, refl, refl)) (c .before .choose .ensures) (c .choose2 .ensures))
 
 step-requires : tie.Need-step-requires Inv-loop μ-loop
 step-requires c κs = tt

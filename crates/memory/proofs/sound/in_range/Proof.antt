@@ -1,6 +1,6 @@
 -- `sound::in_range` meets its contract: each return computes the definition with the tests that led there. Assumes nothing.
 use borrow.Author.Tests.{le-leb, lt-leb}
-use Rattle.memory.specs.Limits.{in-range}
+use Rattle.rules.specs.Limits.{in-range}
 use Rattle.memory.proofs.sound.in_range.Statement.{statement}
 use Rattle.memory.proofs.sound.in_range.Tie as tie
 

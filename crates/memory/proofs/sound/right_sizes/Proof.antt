@@ -1,6 +1,6 @@
 -- `sound::right_sizes` meets its contract: the definition computes with what the two callees ensure. Assumes nothing.
 use mathlib.Core.Path.{sym}
-use Rattle.memory.specs.Box.{right-sizes}
+use Rattle.rules.specs.Box.{right-sizes}
 use borrow.Author.Needs.{needs}
 use Rattle.memory.proofs.sound.right_sizes.Statement.{statement}
 use Rattle.memory.proofs.sound.right_sizes.Tie as tie

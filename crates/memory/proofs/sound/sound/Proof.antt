@@ -1,6 +1,6 @@
 -- `sound::sound` meets its contract: the definition computes with what its callee ensures. Assumes nothing.
 use mathlib.Core.Path.{sym}
-use Rattle.memory.specs.Box.{sound}
+use Rattle.rules.specs.Box.{sound}
 use borrow.Author.Needs.{needs}
 use Rattle.memory.proofs.sound.sound.Statement.{statement}
 use Rattle.memory.proofs.sound.sound.Tie as tie
@@ -10,11 +10,11 @@ right-sizes-requires c κs = search needs
 
 returns : tie.Need-returns
 unfolding sound
-returns c b e q = simp (e, sym (c .before .right-sizes .ensures b q), c .if1 .taken)
+returns c b m h e q = simp (m, h, e, sym (c .before .right-sizes .ensures b q), c .if1 .taken)
 
 returns-2 : tie.Need-returns-2
 unfolding sound
-returns-2 c b e q = simp (e, sym (c .before .right-sizes .ensures b q), c .if1 .left)
+returns-2 c b m h e q = simp (m, h, e, sym (c .before .right-sizes .ensures b q), c .if1 .left)
 
 pub sound-spec : {M : Type 1} → statement M
 sound-spec =

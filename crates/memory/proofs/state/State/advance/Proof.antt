@@ -1,5 +1,6 @@
 -- `State::advance` meets its contract: each return is a case of the definition. Assumes nothing.
-use Rattle.memory.specs.Box.{Box, Reply, reply}
+use Rattle.rules.specs.Parts.{Box}
+use Rattle.rules.specs.Box.{Reply, reply}
 use Rattle.memory.specs.Boxed.{boxed, word-of}
 use Rattle.memory.proofs.Moves.{advance-data, advance-past, advance-done}
 use borrow.Author.Needs.{needs}

@@ -1,6 +1,6 @@
 -- `State::carry_out` meets its contract: by the kinds, each by what its method ensures. Assumes nothing.
 use denote.Ref.{now}
-use Rattle.memory.specs.Box.{Reply, reply}
+use Rattle.rules.specs.Box.{Reply, reply}
 use Rattle.memory.specs.Boxed.{boxed}
 use Rattle.memory.proofs.Carrying.{changed, right-setd, right-nil, right-move, right-advance, right-load, right-size, right-tag, right-same, does-setd, does-nil, does-move, does-advance, does-load, does-size, does-tag, does-same}
 use borrow.Author.Needs.{needs}

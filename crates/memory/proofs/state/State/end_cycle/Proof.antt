@@ -2,8 +2,8 @@
 -- nothing.
 use mathlib.Core.Path.{refl}
 use Rattle.memory.specs.Boxed.{boxed}
-use Rattle.memory.specs.Box.{is-entry}
-use Rattle.memory.specs.Request.{no-room}
+use Rattle.rules.specs.Box.{is-entry}
+use Rattle.rules.specs.Request.{no-room}
 use Rattle.memory.specs.Decide.{end-refused, with-grant}
 use Rattle.memory.proofs.Granting.{thirty-one}
 use Rattle.memory.proofs.Ending.{end-held, end-free}

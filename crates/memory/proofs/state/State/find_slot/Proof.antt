@@ -5,7 +5,7 @@ use Rattle.memory.proofs.Bounds.{tested}
 use Rattle.memory.proofs.Findings.{word-beyond, word-outside, word-there}
 use Rattle.memory.proofs.Places.{within-m}
 use mathlib.Core.List.{[]}
-use Rattle.memory.specs.Place.{in-memory}
+use Rattle.rules.specs.Place.{in-memory}
 use Rattle.memory.specs.Boxed.{boxed, place-of}
 use borrow.Author.Needs.{needs}
 use Rattle.memory.proofs.state.State.find_slot.Statement.{statement}

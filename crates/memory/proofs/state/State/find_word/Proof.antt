@@ -4,7 +4,7 @@ use mathlib.Core.Path.{sym, _∙_}
 use mathlib.Core.Path.{ap}
 use Prim.Native.Nat.{ℕ}
 use denote.Ref.{now}
-use Rattle.memory.specs.Request.{at-word}
+use Rattle.rules.specs.Request.{at-word}
 use Rattle.memory.specs.Boxed.{boxed}
 use Rattle.memory.proofs.Findings.{named-tuple, named-nil, not-named, name-entry, number-read}
 use borrow.Author.Needs.{needs}

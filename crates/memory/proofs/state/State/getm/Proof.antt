@@ -2,9 +2,9 @@
 use mathlib.Core.Bool.{true, false}
 use mathlib.Core.Path.{_≡_, sym, _∙_}
 use denote.Ref.{now}
-use Rattle.memory.specs.Box.{Box}
+use Rattle.rules.specs.Parts.{Box}
 use Rattle.memory.specs.Boxed.{boxed}
-use Rattle.memory.specs.Request.{no-room, can-make}
+use Rattle.rules.specs.Request.{no-room, can-make}
 use Rattle.memory.proofs.Sizes.{sound-lengths, sound-ranges}
 use Rattle.memory.proofs.Tuples.{room-top, make-entry, make-live, getm-large, getm-held, getm-made, getm-refused}
 use Rattle.memory.proofs.state.State.getm.Statement.{statement}

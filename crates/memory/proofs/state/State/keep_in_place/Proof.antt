@@ -5,10 +5,10 @@ use mathlib.Core.Bool.{false}
 use mathlib.Core.Path.{sym, _∙_}
 use denote.Ref.{now}
 use lib.ListN.{set}
-use Rattle.memory.specs.State.{with-size, with-dest}
-use Rattle.memory.specs.Box.{is-entry}
+use Rattle.rules.specs.Parts.{with-dest, with-size}
+use Rattle.rules.specs.Box.{is-entry}
 use Rattle.memory.specs.Boxed.{boxed}
-use Rattle.memory.specs.Request.{no-room}
+use Rattle.rules.specs.Request.{no-room}
 use Rattle.memory.specs.Decide.{end-refused, with-grant}
 use Rattle.memory.proofs.Granting.{thirty, nine}
 use Rattle.memory.proofs.Sweeping.{keep-refused, keep-ended, keep-on, keep-far}
@@ -30,7 +30,7 @@ end-refused-requires c κs = search needs
 
 returns : tie.Need-returns
 unfolding end-refused no-room is-entry with-grant
-returns c = let a = c .before .before .before .before .before .before .before .before .before .args in (λ ads ss ls ds. keep-refused (boxed (now (a .words)) (now (a .flags)) ads ss ls (now (a .marks)) ds (a .self)) (boxed (now (a .words)) (now (a .flags)) ads ss ls (now (a .marks)) ds (with-size (a .size) (a .self))) (c .before .before .if1 .taken) (sym (c .before .end-refused .ensures [] [] [] [] [] [] []) ∙ c .if2 .taken), λ e. absurd (nine e))
+returns c = let a = c .before .before .before .before .before .before .before .before .before .args in (λ ads ss ls ds. keep-refused (boxed (now (a .words)) (now (a .flags)) ads ss ls (now (a .marks)) ds (a .self)) (with-size (a .size) (boxed (now (a .words)) (now (a .flags)) ads ss ls (now (a .marks)) ds (a .self))) (c .before .before .if1 .taken) (sym (c .before .end-refused .ensures [] [] [] [] [] [] []) ∙ c .if2 .taken), λ e. absurd (nine e))
 
 cast-last : tie.Need-cast-last
 cast-last c = search needs
@@ -46,7 +46,7 @@ same-length : tie.Need-same-length
 same-length c = search needs
 
 returns-2 : tie.Need-returns-2
-returns-2 c = let a = c .before .before .before .before .before .before .before .before .before .before .before .args in (λ ads ss ls ds. keep-ended (boxed (now (a .words)) (now (a .flags)) ads ss ls (now (a .marks)) ds (a .self)) (boxed (now (a .words)) (now (a .flags)) ads ss ls (now (a .marks)) ds (with-size (a .size) (a .self))) _ (c .before .before .before .before .if1 .taken) (c .end-cycle .ensures .0 (boxed (now (a .words)) (now (a .flags)) ads ss ls (now (a .marks)) ds (a .self)) (now (a .words)) (now (a .flags)) ads ss ls (set (now (a .marks)) (a .self .tuple) false) ds), c .end-cycle .ensures .1)
+returns-2 c = let a = c .before .before .before .before .before .before .before .before .before .before .before .args in (λ ads ss ls ds. keep-ended (boxed (now (a .words)) (now (a .flags)) ads ss ls (now (a .marks)) ds (a .self)) (with-size (a .size) (boxed (now (a .words)) (now (a .flags)) ads ss ls (now (a .marks)) ds (a .self))) _ (c .before .before .before .before .if1 .taken) (c .end-cycle .ensures .0 (boxed (now (a .words)) (now (a .flags)) ads ss ls (now (a .marks)) ds (a .self)) (now (a .words)) (now (a .flags)) ads ss ls (set (now (a .marks)) (a .self .tuple) false) ds), c .end-cycle .ensures .1)
 
 slice-write-marks-2 : tie.Need-slice-write-marks-2
 slice-write-marks-2 c = search needs
@@ -59,11 +59,11 @@ same-length-2 c = search needs
 
 returns-3 : tie.Need-returns-3
 unfolding with-grant
-returns-3 c = let a = c .before .before .before .before .before .before .before .before .before .before .args in (λ ads ss ls ds. keep-on (boxed (now (a .words)) (now (a .flags)) ads ss ls (now (a .marks)) ds (a .self)) (boxed (now (a .words)) (now (a .flags)) ads ss ls (now (a .marks)) ds (with-size (a .size) (a .self))) _ (c .before .before .before .if1 .left) (c .before .if3 .taken) (c .go-on .ensures ads ss ls (set (now (a .marks)) (a .self .tuple) false) ds), λ e. absurd (thirty e))
+returns-3 c = let a = c .before .before .before .before .before .before .before .before .before .before .args in (λ ads ss ls ds. keep-on (boxed (now (a .words)) (now (a .flags)) ads ss ls (now (a .marks)) ds (a .self)) (with-size (a .size) (boxed (now (a .words)) (now (a .flags)) ads ss ls (now (a .marks)) ds (a .self))) _ (c .before .before .before .if1 .left) (c .before .if3 .taken) (c .go-on .ensures ads ss ls (set (now (a .marks)) (a .self .tuple) false) ds), λ e. absurd (thirty e))
 
 returns-4 : tie.Need-returns-4
 unfolding with-grant
-returns-4 c = let a = c .before .before .before .before .before .before .before .before .before .args in (λ ads ss ls ds. keep-far (boxed (now (a .words)) (now (a .flags)) ads ss ls (now (a .marks)) ds (a .self)) (boxed (now (a .words)) (now (a .flags)) ads ss ls (now (a .marks)) ds (with-size (a .size) (a .self))) (c .before .before .if1 .left) (c .if3 .left), λ e. absurd (nine e))
+returns-4 c = let a = c .before .before .before .before .before .before .before .before .before .args in (λ ads ss ls ds. keep-far (boxed (now (a .words)) (now (a .flags)) ads ss ls (now (a .marks)) ds (a .self)) (with-size (a .size) (boxed (now (a .words)) (now (a .flags)) ads ss ls (now (a .marks)) ds (a .self))) (c .before .before .if1 .left) (c .if3 .left), λ e. absurd (nine e))
 
 pub keep-in-place-spec : {M : Type 1} → statement M
 keep-in-place-spec =

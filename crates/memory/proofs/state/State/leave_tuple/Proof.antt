@@ -4,9 +4,9 @@ use native.Mathlib.Omega.{arith}
 use denote.Ref.{now}
 use Rattle.memory.specs.Boxed.{boxed}
 use Rattle.memory.specs.Decide.{with-grant}
-use Rattle.memory.proofs.Ending.{bare}
 use Rattle.memory.proofs.Granting.{thirty}
 use Rattle.memory.proofs.Moving.{leaving-within, leaving-last, leaving-inner, leave-last, leave-inner}
+use mathlib.Core.List.{[]}
 use borrow.Author.Needs.{needs}
 use Rattle.memory.proofs.state.State.leave_tuple.Statement.{statement}
 use Rattle.memory.proofs.state.State.leave_tuple.Tie as tie
@@ -18,13 +18,13 @@ add-after-2 : tie.Need-add-after-2
 add-after-2 c = omega (arith, leaving-within)
 
 end-cycle-requires : tie.Need-end-cycle-requires
-end-cycle-requires c κs = leaving-last (bare (c .before .before .before .before .before .args .self)) (c .before .before .before .before .before .pre .3) (c .if1 .taken)
+end-cycle-requires c κs = leaving-last (boxed [] [] [] [] [] [] [] (c .before .before .before .before .before .args .self)) (c .before .before .before .before .before .pre .3) (c .if1 .taken)
 
 returns : tie.Need-returns
 returns c = let a = c .before .before .before .before .before .before .args in (λ found ads ss ls ms ds. leave-last (boxed (now (a .words)) (now (a .flags)) ads ss ls ms ds (a .self)) found _ (c .before .before .before .before .before .before .pre .3) (c .before .if1 .taken) (c .end-cycle .ensures .0 found (now (a .words)) (now (a .flags)) ads ss ls ms ds), c .end-cycle .ensures .1)
 
 go-on-requires : tie.Need-go-on-requires
-go-on-requires c κs = (c .before .before .before .before .before .pre .0, c .before .before .before .before .before .pre .1, leaving-inner (bare (c .before .before .before .before .before .args .self)) (c .before .before .before .before .before .pre .3) (c .if1 .left))
+go-on-requires c κs = (c .before .before .before .before .before .pre .0, c .before .before .before .before .before .pre .1, leaving-inner (boxed [] [] [] [] [] [] [] (c .before .before .before .before .before .args .self)) (c .before .before .before .before .before .pre .3) (c .if1 .left))
 
 returns-2 : tie.Need-returns-2
 unfolding with-grant

@@ -5,7 +5,7 @@ use mathlib.Core.Bool.{Bool}
 use mathlib.Core.List.{List}
 use mathlib.Core.Path.{_≡_, refl, sym, _∙_}
 use Rattle.memory.specs.Boxed.{boxed}
-use Rattle.memory.specs.Collector.{look-from}
+use Rattle.rules.specs.Collector.{look-from}
 use Rattle.memory.proofs.Rooting.{look-on, look-stop, look-end}
 use borrow.Author.Needs.{needs}
 use Rattle.memory.proofs.state.State.look.Statement.{statement}

@@ -1,7 +1,7 @@
 -- `State::mark_next` equals the definition `mark-next`, by its two cases. Assumes nothing.
 use denote.Ref.{now}
 use Rattle.memory.specs.Boxed.{boxed}
-use Rattle.memory.specs.Collector.{scan-next}
+use Rattle.rules.specs.Collector.{scan-next}
 use Rattle.memory.proofs.Granting.{calm-reply, calm-grants, scan-next-calm}
 use Rattle.memory.proofs.Rooting.{next-root, next-scan}
 use borrow.Author.Needs.{needs}

@@ -3,7 +3,7 @@ use mathlib.Core.List.{[]}
 use mathlib.Core.Path.{sym, ap, _∙_}
 use native.Mathlib.Omega.{arith}
 use denote.Ref.{now}
-use Rattle.memory.specs.Box.{handle-of}
+use Rattle.rules.specs.Box.{handle-of}
 use Rattle.memory.specs.Boxed.{boxed}
 use Rattle.memory.specs.Decide.{with-grant}
 use Rattle.memory.proofs.Granting.{thirty, nine}

@@ -1,7 +1,7 @@
 -- `State::mark_rule` equals the rule of the phase, for the phases that mark. Assumes nothing.
 use denote.Ref.{now}
 use Rattle.memory.specs.Boxed.{boxed}
-use Rattle.memory.specs.Collector.{rest, mark-scan, mark-add, rule-of}
+use Rattle.rules.specs.Collector.{rest, mark-scan, mark-add, rule-of}
 use Rattle.memory.proofs.Granting.{calm-reply, calm-grants, rest-calm, mark-scan-calm, mark-add-calm}
 use Rattle.memory.proofs.Stepping.{left-three, rule-at}
 use borrow.Author.Needs.{needs}

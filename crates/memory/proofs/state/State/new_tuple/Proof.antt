@@ -2,7 +2,8 @@
 use mathlib.Core.Bool.{false, not}
 use denote.Ref.{now}
 use lib.Dec.{eqb}
-use lib.ListN.{length, length-set}
+use lib.ListN.{length, set, length-set}
+use Rattle.memory.specs.Boxed.{boxed}
 use Rattle.memory.proofs.Bounds.{below, below-room}
 use Rattle.memory.proofs.Tuples.{made}
 use borrow.Author.Needs.{needs}
@@ -121,7 +122,13 @@ same-length-6 c =
 returns : tie.Need-returns
 returns c =
     let a = c .before .before .before .before .before .before .before .before .before .before .before .before .args in
-    made (now (a .words)) (now (a .flags)) (now (a .addresses)) (now (a .sizes)) (now (a .links)) (now (a .marks)) (now (a .deeps)) (a .r) (a .n) (a .tag) (c .before .before .before .packed .result) (c .before .before .packed2 .result) (a .self) (c .before .take-room .result) (c .put-register .result) (c .before .before .before .packed .ensures) (c .before .before .packed2 .ensures) (c .before .take-room .ensures) (c .put-register .ensures)
+    let ws = set (now (a .words)) (a .self .top) (c .before .before .before .packed .result) in
+    let fs = set (now (a .flags)) (a .self .top) false in
+    let ads = set (now (a .addresses)) (a .self .free) (a .self .top) in
+    let ss = set (now (a .sizes)) (a .self .free) (a .n) in
+    let ms = set (now (a .marks)) (a .self .free) (not (eqb (a .self .phase) 0)) in
+    let ds = set (now (a .deeps)) (a .self .free) false in
+    made (now (a .words)) (now (a .flags)) (now (a .addresses)) (now (a .sizes)) (now (a .links)) (now (a .marks)) (now (a .deeps)) (a .r) (a .n) (a .tag) (c .before .before .before .packed .result) (c .before .before .packed2 .result) (a .self) (boxed ws fs ads ss (now (a .links)) ms ds (c .before .take-room .result)) (boxed ws fs ads ss (now (a .links)) ms ds (c .put-register .result)) (c .before .before .before .packed .ensures) (c .before .before .packed2 .ensures) (c .before .take-room .ensures ws fs ads ss (now (a .links)) ms ds) (c .put-register .ensures ws fs ads ss (now (a .links)) ms ds)
 
 pub new-tuple-spec : {M : Type 1} → statement M
 new-tuple-spec =

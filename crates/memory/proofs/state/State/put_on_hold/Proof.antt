@@ -1,6 +1,6 @@
 -- `State::put_on_hold` meets its contract: the definition computes. Assumes nothing.
 use mathlib.Core.Path.{refl}
-use Rattle.memory.specs.Request.{hold}
+use Rattle.rules.specs.Request.{hold}
 use Rattle.memory.proofs.state.State.put_on_hold.Statement.{statement}
 use Rattle.memory.proofs.state.State.put_on_hold.Tie as tie
 use Rattle.memory.proofs.state.State.put_on_hold.Reads as reads

@@ -1,6 +1,6 @@
 -- `State::release` equals the definition `release`, by its cases. Assumes nothing.
 use lib.ListN.{set}
-use Rattle.memory.specs.State.{with-size}
+use Rattle.rules.specs.Parts.{with-size}
 use Rattle.memory.specs.Boxed.{boxed}
 use denote.Ref.{now}
 use borrow.Author.Needs.{needs}
@@ -33,10 +33,10 @@ same-length : tie.Need-same-length
 same-length c = search needs
 
 returns : tie.Need-returns
-returns c ads ss ms ds = let a = c .before .before .before .before .before .before .before .before .before .args in release-on (boxed (now (a .words)) (now (a .flags)) ads ss (now (a .links)) ms ds (a .self)) (boxed (now (a .words)) (now (a .flags)) ads ss (now (a .links)) ms ds (with-size (a .size) (a .self))) _ (c .before .before .before .if1 .taken) (c .before .if2 .taken) (c .go-on .ensures ads ss (set (now (a .links)) (a .self .tuple) (a .self .free)) ms ds)
+returns c ads ss ms ds = let a = c .before .before .before .before .before .before .before .before .before .args in release-on (boxed (now (a .words)) (now (a .flags)) ads ss (now (a .links)) ms ds (a .self)) (with-size (a .size) (boxed (now (a .words)) (now (a .flags)) ads ss (now (a .links)) ms ds (a .self))) _ (c .before .before .before .if1 .taken) (c .before .if2 .taken) (c .go-on .ensures ads ss (set (now (a .links)) (a .self .tuple) (a .self .free)) ms ds)
 
 returns-2 : tie.Need-returns-2
-returns-2 c ads ss ms ds = let a = c .before .before .before .before .before .before .before .before .args in release-far (boxed (now (a .words)) (now (a .flags)) ads ss (now (a .links)) ms ds (a .self)) (boxed (now (a .words)) (now (a .flags)) ads ss (now (a .links)) ms ds (with-size (a .size) (a .self))) (c .before .before .if1 .taken) (c .if2 .left)
+returns-2 c ads ss ms ds = let a = c .before .before .before .before .before .before .before .before .args in release-far (boxed (now (a .words)) (now (a .flags)) ads ss (now (a .links)) ms ds (a .self)) (with-size (a .size) (boxed (now (a .words)) (now (a .flags)) ads ss (now (a .links)) ms ds (a .self))) (c .before .before .if1 .taken) (c .if2 .left)
 
 mul-links-2 : tie.Need-mul-links-2
 mul-links-2 c = search needs
@@ -51,7 +51,7 @@ same-length-2 : tie.Need-same-length-2
 same-length-2 c = search needs
 
 returns-3 : tie.Need-returns-3
-returns-3 c ads ss ms ds = let a = c .before .before .before .before .before .before .before .args in release-zero (boxed (now (a .words)) (now (a .flags)) ads ss (now (a .links)) ms ds (a .self)) (boxed (now (a .words)) (now (a .flags)) ads ss (now (a .links)) ms ds (with-size (a .size) (a .self))) _ (c .before .if1 .left) (c .start-zero .ensures (now (a .words)) (now (a .flags)) ads ss (set (now (a .links)) (a .self .tuple) (a .self .free)) ms ds)
+returns-3 c ads ss ms ds = let a = c .before .before .before .before .before .before .before .args in release-zero (boxed (now (a .words)) (now (a .flags)) ads ss (now (a .links)) ms ds (a .self)) (with-size (a .size) (boxed (now (a .words)) (now (a .flags)) ads ss (now (a .links)) ms ds (a .self))) _ (c .before .if1 .left) (c .start-zero .ensures (now (a .words)) (now (a .flags)) ads ss (set (now (a .links)) (a .self .tuple) (a .self .free)) ms ds)
 
 pub release-spec : {M : Type 1} → statement M
 release-spec =

@@ -1,7 +1,7 @@
 -- `State::rule` equals the rule of the phase. Assumes nothing.
 use denote.Ref.{now}
 use Rattle.memory.specs.Boxed.{boxed}
-use Rattle.memory.specs.Collector.{sweep-clear, sweep-write, rule-of}
+use Rattle.rules.specs.Collector.{sweep-clear, sweep-write, rule-of}
 use Rattle.memory.proofs.Granting.{calm-reply, calm-grants, sweep-clear-calm, sweep-write-calm}
 use Rattle.memory.proofs.Stepping.{left-eight, rule-at}
 use borrow.Author.Needs.{needs}

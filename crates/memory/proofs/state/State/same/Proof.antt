@@ -1,5 +1,6 @@
 -- `State::same` meets its contract: by what its callees ensure. Assumes nothing.
-use Rattle.memory.specs.Box.{Box, Reply, reply}
+use Rattle.rules.specs.Parts.{Box}
+use Rattle.rules.specs.Box.{Reply, reply}
 use Rattle.memory.specs.Boxed.{boxed, word-of}
 use Rattle.memory.proofs.Moves.{same-one, same-none}
 use borrow.Author.Needs.{needs}

@@ -1,6 +1,6 @@
 -- `State::scan` equals the definition `scan`, by computing it. Assumes nothing.
 use borrow.Author.Needs.{needs}
-use Rattle.memory.specs.Collector.{scan}
+use Rattle.rules.specs.Collector.{scan}
 use mathlib.Core.Path.{refl}
 use Rattle.memory.proofs.state.State.scan.Statement.{statement}
 use Rattle.memory.proofs.state.State.scan.Tie as tie

@@ -1,6 +1,7 @@
 -- `State::set_register` meets its contract: by what `put_register` ensures. Assumes nothing.
-use Rattle.memory.specs.Boxed.{word-of}
-use Rattle.memory.proofs.Moves.{put-done}
+use mathlib.Core.Path.{ap}
+use Rattle.rules.specs.Parts.{Box}
+use Rattle.rules.specs.Box.{reply}
 use borrow.Author.Needs.{needs}
 use Rattle.memory.proofs.state.State.set_register.Statement.{statement}
 use Rattle.memory.proofs.state.State.set_register.Tie as tie
@@ -12,7 +13,7 @@ put-register-requires : tie.Need-put-register-requires
 put-register-requires c κs = search needs
 
 returns : tie.Need-returns
-returns c ws fs ads ss ls ms ds = put-done ws fs ads ss ls ms ds (c .before .args .self) _ (c .before .args .r) (word-of (c .before .args .w)) (c .put-register .ensures)
+returns c ws fs ads ss ls ms ds = ap (λ (b : Box). reply b 0) (c .put-register .ensures ws fs ads ss ls ms ds)
 
 pub set-register-spec : {M : Type 1} → statement M
 set-register-spec = tie.close (tie.spec put-register-requires returns)

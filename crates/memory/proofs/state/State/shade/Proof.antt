@@ -5,9 +5,9 @@ use mathlib.Core.Bool.{true}
 use mathlib.Core.List.{[]}
 use denote.Ref.{now}
 use lib.ListN.{length, getD, length-set}
-use Rattle.memory.specs.Box.{Box}
+use Rattle.rules.specs.Parts.{Box}
 use Rattle.memory.specs.Boxed.{boxed}
-use Rattle.memory.specs.Place.{list-next, mark-live}
+use Rattle.rules.specs.Place.{list-next, mark-live}
 use Rattle.memory.proofs.Bounds.{below, by-four, sum-fits, total-fits}
 use Rattle.memory.proofs.Shading.{shadable-small, shadable-total, shade-marked, shade-shallow, shade-deep}
 use Rattle.memory.proofs.state.State.shade.Statement.{statement}

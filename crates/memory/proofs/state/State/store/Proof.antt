@@ -1,6 +1,7 @@
 -- `State::store` meets its contract: the definition at what `find_word` found. Assumes nothing.
 use denote.Ref.{now}
-use Rattle.memory.specs.Box.{Box, Reply, reply}
+use Rattle.rules.specs.Parts.{Box}
+use Rattle.rules.specs.Box.{Reply, reply}
 use Rattle.memory.specs.Boxed.{boxed, word-of}
 use Rattle.memory.proofs.Sizes.{sound-lengths, sound-ranges}
 use Rattle.memory.proofs.Findings.{slot-entry, slot-within}

@@ -4,8 +4,8 @@ use mathlib.Core.List.{[]}
 use mathlib.Core.Path.{_≡_, refl}
 use denote.Ref.{now}
 use lib.ListN.{length}
-use Rattle.memory.specs.Box.{Box}
-use Rattle.memory.specs.Place.{can-shade}
+use Rattle.rules.specs.Parts.{Box}
+use Rattle.rules.specs.Place.{can-shade}
 use Rattle.memory.specs.Boxed.{boxed, word-of, place-of}
 use Rattle.memory.proofs.Bounds.{tested}
 use Rattle.memory.proofs.Stores.{kept-sizes, store-plain, store-shaded, store-unshadable}

@@ -4,9 +4,9 @@ use Prim.Native.Nat.{_+_, _<_}
 use native.Mathlib.Omega.{arith}
 use mathlib.Core.Path.{sym, _∙_}
 use denote.Ref.{now}
-use Rattle.memory.specs.State.{with-size}
+use Rattle.rules.specs.Parts.{with-size}
 use Rattle.memory.specs.Boxed.{boxed}
-use Rattle.memory.specs.Collector.{start-move, release}
+use Rattle.rules.specs.Collector.{start-move, release}
 use Rattle.memory.specs.Decide.{with-grant}
 use Rattle.memory.proofs.Compare.{reached}
 use Rattle.memory.proofs.Granting.{thirty, nine, calm-reply, calm-grants, release-calm}
@@ -31,7 +31,7 @@ same-length : tie.Need-same-length
 same-length c = search needs
 
 returns : tie.Need-returns
-returns c = let a = c .before .before .before .before .before .before .before .before .before .before .before .before .before .before .before .args in (λ ads ss ds. tuple-kept (boxed (now (a .words)) (now (a .flags)) ads ss (now (a .links)) (now (a .marks)) ds (a .self)) (boxed (now (a .words)) (now (a .flags)) ads ss (now (a .links)) (now (a .marks)) ds (with-size (a .size) (a .self))) _ (sym (c .before .before .before .before .before .before .before .before .before .reaches .ensures) ∙ c .before .before .before .before .before .before .before .before .if1 .taken) (c .before .before .before .before .before .before .if2 .taken) (c .before .before .before .before .if3 .taken) (c .before .before .keep-in-place .ensures .0 ads ss (now (a .links)) ds), c .before .before .keep-in-place .ensures .1)
+returns c = let a = c .before .before .before .before .before .before .before .before .before .before .before .before .before .before .before .args in (λ ads ss ds. tuple-kept (boxed (now (a .words)) (now (a .flags)) ads ss (now (a .links)) (now (a .marks)) ds (a .self)) (with-size (a .size) (boxed (now (a .words)) (now (a .flags)) ads ss (now (a .links)) (now (a .marks)) ds (a .self))) _ (sym (c .before .before .before .before .before .before .before .before .before .reaches .ensures) ∙ c .before .before .before .before .before .before .before .before .if1 .taken) (c .before .before .before .before .before .before .if2 .taken) (c .before .before .before .before .if3 .taken) (c .before .before .keep-in-place .ensures .0 ads ss (now (a .links)) ds), c .before .before .keep-in-place .ensures .1)
 
 slice-write-marks : tie.Need-slice-write-marks
 slice-write-marks c = search needs
@@ -41,7 +41,7 @@ same-length-2 c = search needs
 
 returns-2 : tie.Need-returns-2
 unfolding start-move with-grant
-returns-2 c = let a = c .before .before .before .before .before .before .before .before .before .before .before .args in (λ ads ss ds. tuple-moves (boxed (now (a .words)) (now (a .flags)) ads ss (now (a .links)) (now (a .marks)) ds (a .self)) (boxed (now (a .words)) (now (a .flags)) ads ss (now (a .links)) (now (a .marks)) ds (with-size (a .size) (a .self))) (sym (c .before .before .before .before .before .reaches .ensures) ∙ c .before .before .before .before .if1 .taken) (c .before .before .if2 .taken) (c .if3 .left), λ e. absurd (thirty e))
+returns-2 c = let a = c .before .before .before .before .before .before .before .before .before .before .before .args in (λ ads ss ds. tuple-moves (boxed (now (a .words)) (now (a .flags)) ads ss (now (a .links)) (now (a .marks)) ds (a .self)) (with-size (a .size) (boxed (now (a .words)) (now (a .flags)) ads ss (now (a .links)) (now (a .marks)) ds (a .self))) (sym (c .before .before .before .before .before .reaches .ensures) ∙ c .before .before .before .before .if1 .taken) (c .before .before .if2 .taken) (c .if3 .left), λ e. absurd (thirty e))
 
 release-requires : tie.Need-release-requires
 release-requires c κs = (search needs, search needs, search needs, search needs, search needs, let h : c .before .before .before .before .before .before .before .before .before .before .args .self .src + c .before .before .before .before .before .before .before .before .before .before .args .size < c .before .before .before .before .before .before .before .before .before .before .args .self .m = reached (c .before .before .before .before .reaches .ensures) (c .before .before .before .if1 .taken) in omega arith)
@@ -50,11 +50,11 @@ same-length-3 : tie.Need-same-length-3
 same-length-3 c = search needs
 
 returns-3 : tie.Need-returns-3
-returns-3 c = let a = c .before .before .before .before .before .before .before .before .before .before .before .before .before .args in (λ ads ss ds. tuple-released (boxed (now (a .words)) (now (a .flags)) ads ss (now (a .links)) (now (a .marks)) ds (a .self)) (boxed (now (a .words)) (now (a .flags)) ads ss (now (a .links)) (now (a .marks)) ds (with-size (a .size) (a .self))) _ (sym (c .before .before .before .before .before .before .before .reaches .ensures) ∙ c .before .before .before .before .before .before .if1 .taken) (c .before .before .before .before .if2 .left) (calm-reply _ _ (release (boxed (now (a .words)) (now (a .flags)) ads ss (now (a .links)) (now (a .marks)) ds (a .self)) (boxed (now (a .words)) (now (a .flags)) ads ss (now (a .links)) (now (a .marks)) ds (with-size (a .size) (a .self)))) (release-calm (boxed (now (a .words)) (now (a .flags)) ads ss (now (a .links)) (now (a .marks)) ds (a .self)) (boxed (now (a .words)) (now (a .flags)) ads ss (now (a .links)) (now (a .marks)) ds (with-size (a .size) (a .self)))) (c .before .before .release .ensures ads ss (now (a .marks)) ds)), let ads = [] in let ss = [] in let ds = [] in calm-grants _ (c .before .before .release .result .answer) (a .self .m) (a .self .h) (c .before .before .release .result .state) (release (boxed (now (a .words)) (now (a .flags)) ads ss (now (a .links)) (now (a .marks)) ds (a .self)) (boxed (now (a .words)) (now (a .flags)) ads ss (now (a .links)) (now (a .marks)) ds (with-size (a .size) (a .self)))) (release-calm (boxed (now (a .words)) (now (a .flags)) ads ss (now (a .links)) (now (a .marks)) ds (a .self)) (boxed (now (a .words)) (now (a .flags)) ads ss (now (a .links)) (now (a .marks)) ds (with-size (a .size) (a .self)))) (c .before .before .release .ensures ads ss (now (a .marks)) ds))
+returns-3 c = let a = c .before .before .before .before .before .before .before .before .before .before .before .before .before .args in (λ ads ss ds. tuple-released (boxed (now (a .words)) (now (a .flags)) ads ss (now (a .links)) (now (a .marks)) ds (a .self)) (with-size (a .size) (boxed (now (a .words)) (now (a .flags)) ads ss (now (a .links)) (now (a .marks)) ds (a .self))) _ (sym (c .before .before .before .before .before .before .before .reaches .ensures) ∙ c .before .before .before .before .before .before .if1 .taken) (c .before .before .before .before .if2 .left) (calm-reply _ _ (release (boxed (now (a .words)) (now (a .flags)) ads ss (now (a .links)) (now (a .marks)) ds (a .self)) (with-size (a .size) (boxed (now (a .words)) (now (a .flags)) ads ss (now (a .links)) (now (a .marks)) ds (a .self)))) (release-calm (boxed (now (a .words)) (now (a .flags)) ads ss (now (a .links)) (now (a .marks)) ds (a .self)) (with-size (a .size) (boxed (now (a .words)) (now (a .flags)) ads ss (now (a .links)) (now (a .marks)) ds (a .self)))) (c .before .before .release .ensures ads ss (now (a .marks)) ds)), let ads = [] in let ss = [] in let ds = [] in calm-grants _ (c .before .before .release .result .answer) (a .self .m) (a .self .h) (c .before .before .release .result .state) (release (boxed (now (a .words)) (now (a .flags)) ads ss (now (a .links)) (now (a .marks)) ds (a .self)) (with-size (a .size) (boxed (now (a .words)) (now (a .flags)) ads ss (now (a .links)) (now (a .marks)) ds (a .self)))) (release-calm (boxed (now (a .words)) (now (a .flags)) ads ss (now (a .links)) (now (a .marks)) ds (a .self)) (with-size (a .size) (boxed (now (a .words)) (now (a .flags)) ads ss (now (a .links)) (now (a .marks)) ds (a .self)))) (c .before .before .release .ensures ads ss (now (a .marks)) ds))
 
 returns-4 : tie.Need-returns-4
 unfolding with-grant
-returns-4 c = let a = c .before .before .before .before .before .before .before .args in (λ ads ss ds. tuple-far (boxed (now (a .words)) (now (a .flags)) ads ss (now (a .links)) (now (a .marks)) ds (a .self)) (boxed (now (a .words)) (now (a .flags)) ads ss (now (a .links)) (now (a .marks)) ds (with-size (a .size) (a .self))) (sym (c .before .reaches .ensures) ∙ c .if1 .left), λ e. absurd (nine e))
+returns-4 c = let a = c .before .before .before .before .before .before .before .args in (λ ads ss ds. tuple-far (boxed (now (a .words)) (now (a .flags)) ads ss (now (a .links)) (now (a .marks)) ds (a .self)) (with-size (a .size) (boxed (now (a .words)) (now (a .flags)) ads ss (now (a .links)) (now (a .marks)) ds (a .self))) (sym (c .before .reaches .ensures) ∙ c .if1 .left), λ e. absurd (nine e))
 
 pub sweep-tuple-spec : {M : Type 1} → statement M
 sweep-tuple-spec =

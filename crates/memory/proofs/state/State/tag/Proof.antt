@@ -1,6 +1,7 @@
 -- `State::tag` meets its contract: the definition at what `find_tuple` found. Assumes nothing.
 use denote.Ref.{now}
-use Rattle.memory.specs.Box.{Box, Reply, reply}
+use Rattle.rules.specs.Parts.{Box}
+use Rattle.rules.specs.Box.{Reply, reply}
 use Rattle.memory.specs.Boxed.{boxed}
 use Rattle.memory.proofs.Findings.{name-entry}
 use Rattle.memory.proofs.Accesses.{tag-there, tag-nil, tag-refused}

@@ -2,8 +2,9 @@
 use Prim.Native.Nat.{ℕ, _+_}
 use native.Mathlib.Omega.{arith}
 use mathlib.Core.Path.{ap}
-use Rattle.memory.specs.State.{with-top, with-free, with-live}
+use Rattle.rules.specs.Parts.{with-free, with-live, with-top}
 use Rattle.memory.proofs.Tuples.{rest-live, cycle-live}
+use Rattle.memory.specs.Boxed.{boxed}
 use borrow.Author.Needs.{needs}
 use Rattle.memory.proofs.state.State.take_room.Statement.{statement}
 use Rattle.memory.proofs.state.State.take_room.Tie as tie
@@ -20,7 +21,7 @@ add-self-2 c = search needs
 
 -- src/tuple.rt:46:13
 returns : tie.Need-returns
-returns c = ap (λ (l : ℕ). with-free (c .before .before .args .link) (with-top (c .before .before .args .self .top + c .before .before .args .n + 1) (with-live l (c .before .before .args .self)))) (rest-live _ _ _ (c .if1 .taken))
+returns c ws fs ads ss ls ms ds = ap (λ (l : ℕ). with-free (c .before .before .args .link) (with-top (c .before .before .args .self .top + c .before .before .args .n + 1) (with-live l (boxed ws fs ads ss ls ms ds (c .before .before .args .self))))) (rest-live _ _ _ (c .if1 .taken))
 
 -- src/tuple.rt:48:21
 add-self-3 : tie.Need-add-self-3
@@ -32,7 +33,7 @@ add-self-4 c = omega (arith, c .before .before .pre .1 (c .if1 .left))
 
 -- src/tuple.rt:36:5
 returns-2 : tie.Need-returns-2
-returns-2 c = ap (λ (l : ℕ). with-free (c .before .before .args .link) (with-top (c .before .before .args .self .top + c .before .before .args .n + 1) (with-live l (c .before .before .args .self)))) (cycle-live _ _ _ (c .if1 .left))
+returns-2 c ws fs ads ss ls ms ds = ap (λ (l : ℕ). with-free (c .before .before .args .link) (with-top (c .before .before .args .self .top + c .before .before .args .n + 1) (with-live l (boxed ws fs ads ss ls ms ds (c .before .before .args .self))))) (cycle-live _ _ _ (c .if1 .left))
 
 pub take-room-spec : {M : Type 1} → statement M
 take-room-spec = tie.close (tie.spec add-self add-self-2 returns add-self-3 add-self-4 returns-2)

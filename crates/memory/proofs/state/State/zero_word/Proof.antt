@@ -1,6 +1,6 @@
 -- `State::zero_word` equals the definition `zero-word`, by computing it. Assumes nothing.
 use borrow.Author.Needs.{needs}
-use Rattle.memory.specs.Collector.{zero-word}
+use Rattle.rules.specs.Collector.{zero-word}
 use mathlib.Core.Path.{refl}
 use Rattle.memory.proofs.state.State.zero_word.Statement.{statement}
 use Rattle.memory.proofs.state.State.zero_word.Tie as tie

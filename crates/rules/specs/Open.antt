@@ -4,13 +4,9 @@ use mathlib.Core.Bool.{Bool, true, false, cond, _&&_}
 use mathlib.Core.List.{List, [], _∷_}
 use lib.Dec.{leb, ltb}
 use lib.ListN.{replicate}
-use Rattle.memory.specs.declared.state.State.{State}
-use Rattle.memory.specs.Limits.{register-count}
-use Rattle.memory.specs.Box.{Box, Reply, reply, right-sizes}
-
--- registers data 0, the free list begins at 1, nothing is held, the phase is Rest; every other number is 0
-unfoldable pub opened-state : ℕ → ℕ → State
-opened-state m h = record { m = m; h = h; registers = replicate register-count 0; flags = replicate register-count false; top = 0; free = 1; phase = 0; live = 0; current = 0; next = 0; src = 0; dest = 0; tuple = 0; size = 0; index = 0; copy = 0; «copy_flag» = false; held = false; begun = false; «hold_register» = 0; «hold_size» = 0; «hold_tag» = 0 }
+use Rattle.rules.specs.Limits.{register-count}
+use Rattle.rules.specs.Parts.{Memory, Directory, Registers, Box, collector-zero, hold-zero}
+use Rattle.rules.specs.Box.{Reply, reply, right-sizes}
 
 -- the free list is 1, 2, up to H-1: each links to the next, and the last to 0. Entry 0 is nil's, and in no list
 unfoldable pub opened-link : ℕ → ℕ → ℕ
@@ -22,8 +18,19 @@ opened-links h i zero = []
 opened-links h i (suc n) = opened-link h i ∷ opened-links h (i + 1) n
 
 -- memory data 0, entries with address 0 and size 0, no mark and no deep flag
+abbrev pub cleared : ℕ → Memory
+cleared m = record { words = replicate m 0; flags = replicate m false }
+
+abbrev pub opened-directory : ℕ → Directory
+opened-directory h = record { addresses = replicate h 0; sizes = replicate h 0; links = opened-links h 0 h; marks = replicate h false; deeps = replicate h false }
+
+-- registers data 0
+abbrev pub opened-registers : Registers
+opened-registers = record { words = replicate register-count 0; flags = replicate register-count false }
+
+-- top is 0, the free list begins at 1, the phase is Rest, nothing is held, every other number is 0
 unfoldable pub opened : ℕ → ℕ → Box
-opened m h = record { words = replicate m 0; flags = replicate m false; addresses = replicate h 0; sizes = replicate h 0; links = opened-links h 0 h; marks = replicate h false; deeps = replicate h false; state = opened-state m h }
+opened m h = record { m = m; h = h; top = 0; free = 1; memory = cleared m; directory = opened-directory h; registers = opened-registers; collector = collector-zero; hold = hold-zero }
 
 -- the stated M and H are in range and the lengths of the lent parts; otherwise 10 and everything as found
 unfoldable pub opening : ℕ → ℕ → Box → Reply

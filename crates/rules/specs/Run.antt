@@ -2,8 +2,9 @@
 use Prim.Native.Nat.{ℕ, zero, suc}
 use mathlib.Core.Bool.{Bool, true, false, cond, _||_}
 use lib.Dec.{eqb}
-use Rattle.memory.specs.Box.{Box, Reply, sound}
-use Rattle.memory.specs.Collector.{step}
+use Rattle.rules.specs.Parts.{Box}
+use Rattle.rules.specs.Box.{Reply, sound}
+use Rattle.rules.specs.Collector.{step}
 
 -- what a run leaves, its answer, and how many single steps lead there
 pub record Ran : Type 0 where

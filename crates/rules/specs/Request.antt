@@ -2,53 +2,49 @@
 use Prim.Native.Nat.{ℕ, _+_}
 use mathlib.Core.Bool.{Bool, true, false, not, cond, _&&_, _||_, Bool·beq}
 use lib.Dec.{leb, ltb, eqb}
-use Rattle.memory.specs.declared.kinds.Request.{Request}
-use Rattle.memory.specs.declared.kinds.Request.the-variants.{Setd, Nil, Move, Advance, Getm, Load, Store, Size, Tag, Same}
-use Rattle.memory.specs.Limits.{half-word, register-count}
-use Rattle.memory.specs.State.{with-top, with-free, with-live, with-held, with-begun, with-hold-register, with-hold-size, with-hold-tag}
-use Rattle.memory.specs.Box.{Box, Word, Reply, reply, data-word, pointer, control-word, handle-of, offset-of, tag-of, is-nil, names-tuple, with-state, put, register, put-register, size-of, link, set-address, set-size, set-mark, set-deep, is-entry, sound}
-use Rattle.memory.specs.Place.{Place, place, in-memory, read, write, can-shade, shade}
+use Rattle.rules.specs.declared.kinds.Request.{Request}
+use Rattle.rules.specs.declared.kinds.Request.the-variants.{Setd, Nil, Move, Advance, Getm, Load, Store, Size, Tag, Same}
+use Rattle.rules.specs.Limits.{half-word, register-count}
+use Rattle.rules.specs.Parts.{Word, Box, with-begun, with-free, with-held, with-hold-register, with-hold-size, with-hold-tag, with-live, with-top}
+use Rattle.rules.specs.Box.{Reply, reply, data-word, pointer, control-word, handle-of, offset-of, tag-of, is-nil, names-tuple, put, register, put-register, size-of, link, set-address, set-size, set-mark, set-deep, is-entry, sound}
+use Rattle.rules.specs.Place.{Place, place, in-memory, read, write, can-shade, shade}
 
 -- ---- a new tuple and the hold
 
 -- no free handle, or top + n + 1 above M
 unfoldable pub no-room : ℕ → Box → Bool
-no-room n b = eqb (b .state .free) 0 || ltb (b .state .m) (b .state .top + n + 1)
+no-room n b = eqb (b .free) 0 || ltb (b .m) (b .top + n + 1)
 
 -- in any phase but Rest a new tuple is marked and counted in live
 unfoldable pub collecting : Box → Bool
-collecting b = not (eqb (b .state .phase) 0)
+collecting b = not (eqb (b .collector .phase) 0)
 
 -- the free handle can be looked up, and the total of a cycle stays within M
 unfoldable pub can-make : ℕ → Box → Bool
-can-make n b = is-entry (b .state .free) b && (not (collecting b) || leb (b .state .live + n + 1) (b .state .m))
+can-make n b = is-entry (b .free) b && (not (collecting b) || leb (b .collector .live + n + 1) (b .m))
 
 -- its entry: at top, of size n, not deep; unmarked in Rest, otherwise marked
 unfoldable pub new-entry : ℕ → ℕ → Box → Box
-new-entry h n b = set-address h (b .state .top) (set-size h n (set-mark h (collecting b) (set-deep h false b)))
+new-entry h n b = set-address h (b .top) (set-size h n (set-mark h (collecting b) (set-deep h false b)))
 
 -- the numbers: the first free handle is taken, top grows by n + 1, and outside Rest live does
 unfoldable pub take-room : ℕ → Box → Box
 take-room n b =
-    with-state
-    (with-free (link (b .state .free) b)
-    (with-top (b .state .top + n + 1)
-    (with-live (cond (collecting b) (b .state .live + n + 1) (b .state .live)) (b .state))))
-    b
+    with-free (link (b .free) b)
+    (with-top (b .top + n + 1)
+    (with-live (cond (collecting b) (b .collector .live + n + 1) (b .collector .live)) b))
 
 -- the first free handle, a control word at top and nothing else, and r points to it
 unfoldable pub new-tuple : ℕ → ℕ → ℕ → Box → Box
 new-tuple r n tag b =
-    put-register r (pointer (b .state .free) 0)
-    (take-room n (put (b .state .top) (control-word (b .state .free) tag) (new-entry (b .state .free) n b)))
+    put-register r (pointer (b .free) 0)
+    (take-room n (put (b .top) (control-word (b .free) tag) (new-entry (b .free) n b)))
 
 -- put on hold: no cycle has begun under it yet
 unfoldable pub hold : ℕ → ℕ → ℕ → Box → Box
 hold r n tag b =
-    with-state
-    (with-held true
-    (with-begun false (with-hold-register r (with-hold-size n (with-hold-tag tag (b .state))))))
-    b
+    with-held true
+    (with-begun false (with-hold-register r (with-hold-size n (with-hold-tag tag b))))
 
 -- ---- a pointer's tuple and word
 
@@ -87,7 +83,7 @@ advance r n b =
 -- n + 1 above M answers 5; no room puts it on hold
 unfoldable pub getm : ℕ → ℕ → ℕ → Box → Reply
 getm r n tag b =
-    cond (leb (n + 1) (b .state .m))
+    cond (leb (n + 1) (b .m))
     (cond (no-room n b) (reply (hold r n tag b) 7) (cond (can-make n b) (done (new-tuple r n tag b)) (reply b 9)))
     (reply b 5)
 
@@ -98,7 +94,7 @@ load r s k b =
 
 -- a non-nil pointer is first shaded, in phase 1, 2 or 3
 unfoldable pub shades : Word → Box → Bool
-shades w b = names-tuple w && leb 1 (b .state .phase) && leb (b .state .phase) 3
+shades w b = names-tuple w && leb 1 (b .collector .phase) && leb (b .collector .phase) 3
 
 unfoldable pub shaded-first : Word → Box → Box
 shaded-first w b = cond (shades w b) (shade (handle-of w) b) b
@@ -172,5 +168,5 @@ carry-out (Same r s t) b = same r s t b
 unfoldable pub request : Request → Box → Reply
 request q b =
     cond (sound b)
-    (cond (registers-right q) (cond (b .state .held) (reply b 6) (carry-out q b)) (reply b 1))
+    (cond (registers-right q) (cond (b .hold .held) (reply b 6) (carry-out q b)) (reply b 1))
     (reply b 9)

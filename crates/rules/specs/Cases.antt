@@ -7,14 +7,15 @@ use mathlib.Core.Option.{Option, none, some}
 use mathlib.Core.Path.{_≡_, refl}
 use lib.Dec.{eqb}
 use lib.ListN.{drop}
-use Rattle.memory.specs.declared.kinds.Request.{Request}
-use Rattle.memory.specs.declared.kinds.Request.the-variants.{Setd, Getm, Load, Store}
-use Rattle.memory.specs.Limits.{in-range}
-use Rattle.memory.specs.Box.{Box, Word, Reply, data-word, pointer, word-at, register, address, link, is-entry, lengths-are, right-sizes, sound}
-use Rattle.memory.specs.Place.{being-moved, place, in-memory, read, write, can-shade, list-next, mark-live, shade}
-use Rattle.memory.specs.Request.{no-room, collecting, can-make, new-entry, take-room, new-tuple, hold, at-tuple, word-number, at-word, advance, getm, load, shades, shaded-first, deepened, store-word, store, size, tag-at, tag, same-word, same, registers-right, carry-out, request}
-use Rattle.memory.specs.Collector.{at-rest, unheld, granted, try-held, settle, end-cycle, note-begun, rest, scan, look-register, look-from, begin-sweep, end-marking, mark-root, scan-next, mark-next, scan-word, scan-current, mark-scan, mark-add, go-on, keep-in-place, start-move, free-tuple, start-zero, release, sweep-tuple, sweep-scan, leave-tuple, settle-move, finish-move, copy-word, sweep-read, sweep-clear, write-copy, sweep-write, zero-word, sweep-zero, rule-of, step}
-use Rattle.memory.specs.Open.{opened-state, opened-link, opened-links, opened}
+use Rattle.rules.specs.declared.kinds.Request.{Request}
+use Rattle.rules.specs.declared.kinds.Request.the-variants.{Setd, Getm, Load, Store}
+use Rattle.rules.specs.Limits.{in-range}
+use Rattle.rules.specs.Parts.{Word, Box}
+use Rattle.rules.specs.Box.{Reply, data-word, pointer, word-at, register, address, link, is-entry, lengths-are, right-sizes, sound}
+use Rattle.rules.specs.Place.{being-moved, place, in-memory, read, write, can-shade, list-next, mark-live, shade}
+use Rattle.rules.specs.Request.{no-room, collecting, can-make, new-entry, take-room, new-tuple, hold, at-tuple, word-number, at-word, advance, getm, load, shades, shaded-first, deepened, store-word, store, size, tag-at, tag, same-word, same, registers-right, carry-out, request}
+use Rattle.rules.specs.Collector.{at-rest, unheld, granted, try-held, settle, end-cycle, note-begun, rest, scan, look-register, look-from, begin-sweep, end-marking, mark-root, scan-next, mark-next, scan-word, scan-current, mark-scan, mark-add, go-on, keep-in-place, start-move, free-tuple, start-zero, release, sweep-tuple, sweep-scan, leave-tuple, settle-move, finish-move, copy-word, sweep-read, sweep-clear, write-copy, sweep-write, zero-word, sweep-zero, rule-of, step}
+use Rattle.rules.specs.Open.{opened-link, opened-links, opened}
 
 -- ---- what is done
 
@@ -124,12 +125,12 @@ is-chain head [] b = eqb head 0
 is-chain head (h ∷ hs) b = eqb head h && is-chain (link h b) hs b
 
 abbrev pub sees : Seen → Box → Bool
-sees (top-is n) b = eqb (b .state .top) n
+sees (top-is n) b = eqb (b .top) n
 sees (word-is a w) b = same-word (word-at a b) w
-sees (zero-from a) b = all-zero (drop a (b .words)) (drop a (b .flags))
+sees (zero-from a) b = all-zero (drop a (b .memory .words)) (drop a (b .memory .flags))
 sees (register-is r w) b = same-word (register r b) w
 sees (lies-at h a) b = eqb (address h b) a
-sees (free-is hs) b = is-chain (b .state .free) hs b
+sees (free-is hs) b = is-chain (b .free) hs b
 
 abbrev pub sees-all : List Seen → Option Box → Bool
 sees-all ss none = false
@@ -145,5 +146,5 @@ all-hold (c ∷ cs) = holds c && all-hold cs
 
 -- all twelve
 pub every-case : all-hold table ≡ true
-unfolding in-range is-entry lengths-are right-sizes sound being-moved place in-memory read write can-shade list-next mark-live shade no-room collecting can-make new-entry take-room new-tuple hold at-tuple word-number at-word advance getm load shades shaded-first deepened store-word store size tag-at tag same-word same registers-right carry-out request at-rest unheld granted try-held settle end-cycle note-begun rest scan look-register look-from begin-sweep end-marking mark-root scan-next mark-next scan-word scan-current mark-scan mark-add go-on keep-in-place start-move free-tuple start-zero release sweep-tuple sweep-scan leave-tuple settle-move finish-move copy-word sweep-read sweep-clear write-copy sweep-write zero-word sweep-zero rule-of step opened-state opened-link opened-links opened
+unfolding in-range is-entry lengths-are right-sizes sound being-moved place in-memory read write can-shade list-next mark-live shade no-room collecting can-make new-entry take-room new-tuple hold at-tuple word-number at-word advance getm load shades shaded-first deepened store-word store size tag-at tag same-word same registers-right carry-out request at-rest unheld granted try-held settle end-cycle note-begun rest scan look-register look-from begin-sweep end-marking mark-root scan-next mark-next scan-word scan-current mark-scan mark-add go-on keep-in-place start-move free-tuple start-zero release sweep-tuple sweep-scan leave-tuple settle-move finish-move copy-word sweep-read sweep-clear write-copy sweep-write zero-word sweep-zero rule-of step opened-link opened-links opened
 every-case = refl

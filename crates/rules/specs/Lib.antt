@@ -1,0 +1,9 @@
+pub mod Limits
+pub mod Parts
+pub mod Box
+pub mod Place
+pub mod Request
+pub mod Collector
+pub mod Run
+pub mod Open
+pub mod Cases
