@@ -8,6 +8,7 @@ use lib.ListN.{length, take, drop}
 use lib.Seq.{sets, sets-eq, drop-length}
 use mir.Val.{boolByte}
 use Rattle.memory.specs.declared.state.State.{State}
+use Rattle.memory.specs.Boxed.{boxed}
 use Rattle.capi.specs.Wire.{state-length, bit, encoded}
 use Rattle.capi.specs.Parts.{sizes-registers, register-flags, collector-numbers, copy-hold}
 
@@ -24,6 +25,6 @@ stored-whole vs l e =
     sets-eq vs l 0 within ∙ ap (λ (k : ℕ). vs ++ drop k l) n ∙ ap (λ (r : List ℕ). vs ++ r) (drop-length l) ∙ append-nil vs
 
 -- the four parts of a state stored over 36 numbers
-pub encoded-parts : (s : State) (l l1 l2 l3 l4 : List ℕ) → length l ≡ state-length → l1 ≡ sets l 0 (sizes-registers s) → l2 ≡ sets l1 10 (register-flags s) → l3 ≡ sets l2 18 (collector-numbers s) → l4 ≡ sets l3 29 (copy-hold s) → l4 ≡ encoded s
+pub encoded-parts : (s : State) (l l1 l2 l3 l4 : List ℕ) → length l ≡ state-length → l1 ≡ sets l 0 (sizes-registers s) → l2 ≡ sets l1 10 (register-flags s) → l3 ≡ sets l2 18 (collector-numbers s) → l4 ≡ sets l3 29 (copy-hold s) → (ws : List ℕ) (fs : List Bool) (ads ss ls : List ℕ) (ms ds : List Bool) → l4 ≡ encoded (boxed ws fs ads ss ls ms ds s)
 unfolding encoded
-encoded-parts s l l1 l2 l3 l4 e p1 p2 p3 p4 = rw (p4, p3, p2, p1) (stored-whole (encoded s) l e)
+encoded-parts s l l1 l2 l3 l4 e p1 p2 p3 p4 ws fs ads ss ls ms ds = rw (p4, p3, p2, p1) (stored-whole (encoded (boxed ws fs ads ss ls ms ds s)) l e)

@@ -9,11 +9,12 @@ use native.Mathlib.Omega.{arith}
 use lib.ListN.{length}
 use borrow.Author.Tests.{eq-eqb, ne-eqb}
 use Rattle.memory.specs.declared.state.State.{State}
-use Rattle.memory.specs.declared.kinds.Request.{Request}
-use Rattle.memory.specs.Box.{Box, Reply, reply}
+use Rattle.rules.specs.declared.kinds.Request.{Request}
+use Rattle.rules.specs.Parts.{Box}
+use Rattle.rules.specs.Box.{Reply, reply}
 use Rattle.memory.specs.Boxed.{boxed}
-use Rattle.memory.specs.Request as memory-request
-use Rattle.memory.specs.Run.{Ran, run}
+use Rattle.rules.specs.Request as rules-request
+use Rattle.rules.specs.Run.{Ran, run}
 use Rattle.capi.specs.declared.asked.Asked.{Asked}
 use Rattle.capi.specs.declared.asked.Asked.the-variants.{Known, Unknown}
 use Rattle.capi.specs.Wire.{state-length, not-understood, decoded, encoded}
@@ -21,12 +22,12 @@ use Rattle.capi.specs.Calls.{Lent, Answer, left, right-length, boxed-of,
 use Rattle.capi.specs.Asked.{asked-as}
 
 -- a reply of the memory unit to the decoded state, encoded
-pub understood : (f : Box → Reply) (l : Lent) (s : State) (r : Reply) (st : List ℕ) → length (l .state) ≡ state-length → s ≡ decoded (l .state) → r ≡ f (boxed (l .words) (l .flags) (l .addresses) (l .sizes) (l .links) (l .marks) (l .deeps) s) → st ≡ encoded (r .box .state) → left st (r .box .words) (r .box .flags) (r .box .addresses) (r .box .sizes) (r .box .links) (r .box .marks) (r .box .deeps) (r .answer) ≡ cond (right-length l) (answered (f (boxed-of l))) (left-alone l)
+pub understood : (f : Box → Reply) (l : Lent) (s : State) (r : Reply) (st : List ℕ) → length (l .state) ≡ state-length → s ≡ decoded (l .state) → r ≡ f (boxed (l .words) (l .flags) (l .addresses) (l .sizes) (l .links) (l .marks) (l .deeps) s) → st ≡ encoded (r .box) → left st (r .box .memory .words) (r .box .memory .flags) (r .box .directory .addresses) (r .box .directory .sizes) (r .box .directory .links) (r .box .directory .marks) (r .box .directory .deeps) (r .answer) ≡ cond (right-length l) (answered (f (boxed-of l))) (left-alone l)
 unfolding answered boxed-of
 understood f l s r st e d p q = rw (eq-eqb (length (l .state)) state-length e, q) (ap answered (p ∙ ap (λ (t : State). f (boxed (l .words) (l .flags) (l .addresses) (l .sizes) (l .links) (l .marks) (l .deeps) t)) d))
 
 -- the same for a run, whose steps and answer are one number
-pub understood-run : (budget : ℕ) (l : Lent) (s : State) (r : Ran) (st : List ℕ) (n a : ℕ) → length (l .state) ≡ state-length → s ≡ decoded (l .state) → r ≡ run budget (boxed (l .words) (l .flags) (l .addresses) (l .sizes) (l .links) (l .marks) (l .deeps) s) → st ≡ encoded (r .box .state) → n ≡ r .steps → a ≡ r .answer → left st (r .box .words) (r .box .flags) (r .box .addresses) (r .box .sizes) (r .box .links) (r .box .marks) (r .box .deeps) (n * 256 + a) ≡ cond (right-length l) (answered (ran-reply budget (boxed-of l))) (left-alone l)
+pub understood-run : (budget : ℕ) (l : Lent) (s : State) (r : Ran) (st : List ℕ) (n a : ℕ) → length (l .state) ≡ state-length → s ≡ decoded (l .state) → r ≡ run budget (boxed (l .words) (l .flags) (l .addresses) (l .sizes) (l .links) (l .marks) (l .deeps) s) → st ≡ encoded (r .box) → n ≡ r .steps → a ≡ r .answer → left st (r .box .memory .words) (r .box .memory .flags) (r .box .directory .addresses) (r .box .directory .sizes) (r .box .directory .links) (r .box .directory .marks) (r .box .directory .deeps) (n * 256 + a) ≡ cond (right-length l) (answered (ran-reply budget (boxed-of l))) (left-alone l)
 unfolding ran-reply
 understood-run budget l s r st n a e d p q u v = understood (ran-reply budget) l s (reply (r .box) (n * 256 + a)) st e d (rw (u, v) (ap (λ (x : Ran). reply (x .box) (x .steps * 256 + x .answer)) p)) q
 
@@ -56,6 +57,6 @@ unfolding left-alone c-asked
 asked-unknown o l k e u = rw (found-none o (sym e ∙ u))
 
 -- numbers that ask for one
-pub asked-known : (o : Option Request) (l : Lent) (k : Asked) (q : Request) → k ≡ asked-as o → k ≡ Known q → cond (right-length l) (answered (memory-request.request q (boxed-of l))) (left-alone l) ≡ c-asked o l
+pub asked-known : (o : Option Request) (l : Lent) (k : Asked) (q : Request) → k ≡ asked-as o → k ≡ Known q → cond (right-length l) (answered (rules-request.request q (boxed-of l))) (left-alone l) ≡ c-asked o l
 unfolding c-asked
 asked-known o l k q e u = rw (found-some o q (sym e ∙ u))

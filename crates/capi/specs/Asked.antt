@@ -1,6 +1,6 @@
 -- What the numbers of a call ask for, as the code answers it.
 use mathlib.Core.Option.{Option, none, some}
-use Rattle.memory.specs.declared.kinds.Request.{Request}
+use Rattle.rules.specs.declared.kinds.Request.{Request}
 use Rattle.capi.specs.declared.asked.Asked.{Asked}
 use Rattle.capi.specs.declared.asked.Asked.the-variants.{Known, Unknown}
 

@@ -6,13 +6,15 @@ use mathlib.Core.List.{List}
 use mathlib.Core.Option.{Option, none, some}
 use lib.Dec.{eqb, ltb}
 use lib.ListN.{length}
-use Rattle.memory.specs.declared.kinds.Request.{Request}
-use Rattle.memory.specs.declared.kinds.Request.the-variants.{Setd, Nil, Move, Advance, Getm, Load, Store, Size, Tag, Same}
-use Rattle.memory.specs.Box.{Box, Reply, reply}
-use Rattle.memory.specs.Request as memory-request
-use Rattle.memory.specs.Collector as memory-collector
-use Rattle.memory.specs.Open as memory-open
-use Rattle.memory.specs.Run as memory-run
+use Rattle.rules.specs.declared.kinds.Request.{Request}
+use Rattle.rules.specs.declared.kinds.Request.the-variants.{Setd, Nil, Move, Advance, Getm, Load, Store, Size, Tag, Same}
+use Rattle.rules.specs.Parts.{Box}
+use Rattle.rules.specs.Box.{Reply, reply}
+use Rattle.rules.specs.Request as rules-request
+use Rattle.rules.specs.Collector as rules-collector
+use Rattle.rules.specs.Open as rules-open
+use Rattle.rules.specs.Run as rules-run
+use Rattle.memory.specs.Boxed.{boxed}
 use Rattle.capi.specs.Wire.{state-length, not-understood, decoded, encoded}
 
 -- the lent numbers of the state, the seven columns, and the answer
@@ -46,11 +48,11 @@ left st ws fs ads ss ls ms ds a = record { state = st; words = ws; flags = fs; a
 
 -- the box that is lent
 unfoldable pub boxed-of : Lent → Box
-boxed-of l = record { words = l .words; flags = l .flags; addresses = l .addresses; sizes = l .sizes; links = l .links; marks = l .marks; deeps = l .deeps; state = decoded (l .state) }
+boxed-of l = boxed (l .words) (l .flags) (l .addresses) (l .sizes) (l .links) (l .marks) (l .deeps) (decoded (l .state))
 
 -- a reply of the memory unit, encoded
 unfoldable pub answered : Reply → Answer
-answered r = record { state = encoded (r .box .state); words = r .box .words; flags = r .box .flags; addresses = r .box .addresses; sizes = r .box .sizes; links = r .box .links; marks = r .box .marks; deeps = r .box .deeps; answer = r .answer }
+answered r = left (encoded (r .box)) (r .box .memory .words) (r .box .memory .flags) (r .box .directory .addresses) (r .box .directory .sizes) (r .box .directory .links) (r .box .directory .marks) (r .box .directory .deeps) (r .answer)
 
 -- nothing changed
 unfoldable pub left-alone : Lent → Answer
@@ -60,17 +62,17 @@ abbrev pub right-length : Lent → Bool
 right-length l = eqb (length (l .state)) state-length
 
 unfoldable pub c-open : ℕ → ℕ → Lent → Answer
-c-open m h l = cond (right-length l) (answered (memory-open.opening m h (boxed-of l))) (left-alone l)
+c-open m h l = cond (right-length l) (answered (rules-open.opening m h (boxed-of l))) (left-alone l)
 
 -- a run's box, and its steps and its answer in one number
 unfoldable pub ran-reply : ℕ → Box → Reply
-ran-reply budget b = reply (memory-run.run budget b .box) (memory-run.run budget b .steps * 256 + memory-run.run budget b .answer)
+ran-reply budget b = reply (rules-run.run budget b .box) (rules-run.run budget b .steps * 256 + rules-run.run budget b .answer)
 
 unfoldable pub c-run : ℕ → Lent → Answer
 c-run budget l = cond (right-length l) (answered (ran-reply budget (boxed-of l))) (left-alone l)
 
 unfoldable pub c-step : Lent → Answer
-c-step l = cond (right-length l) (answered (memory-collector.step (boxed-of l))) (left-alone l)
+c-step l = cond (right-length l) (answered (rules-collector.step (boxed-of l))) (left-alone l)
 
 -- a 16-bit field
 abbrev pub half : ℕ → Bool
@@ -96,7 +98,7 @@ request-of (suc (suc (suc (suc (suc (suc (suc (suc (suc (suc (suc k))))))))))) a
 
 unfoldable pub c-asked : Option Request → Lent → Answer
 c-asked none l = left-alone l
-c-asked (some q) l = cond (right-length l) (answered (memory-request.request q (boxed-of l))) (left-alone l)
+c-asked (some q) l = cond (right-length l) (answered (rules-request.request q (boxed-of l))) (left-alone l)
 
 unfoldable pub c-request : ℕ → ℕ → ℕ → ℕ → Lent → Answer
 c-request kind a b c l = c-asked (request-of kind a b c) l

@@ -2,13 +2,13 @@
 use Prim.Native.Nat.{ℕ}
 use mathlib.Core.List.{List, [], _∷_}
 use Rattle.memory.specs.declared.state.State.{State}
-use Rattle.capi.specs.Wire.{bit, register-at, register-bit}
+use Rattle.capi.specs.Wire.{at, bit, bit-at}
 
 abbrev pub sizes-registers : State → List ℕ
-sizes-registers s = s .m ∷ s .h ∷ register-at s 0 ∷ register-at s 1 ∷ register-at s 2 ∷ register-at s 3 ∷ register-at s 4 ∷ register-at s 5 ∷ register-at s 6 ∷ register-at s 7 ∷ []
+sizes-registers s = s .m ∷ s .h ∷ at (s .registers) 0 ∷ at (s .registers) 1 ∷ at (s .registers) 2 ∷ at (s .registers) 3 ∷ at (s .registers) 4 ∷ at (s .registers) 5 ∷ at (s .registers) 6 ∷ at (s .registers) 7 ∷ []
 
 abbrev pub register-flags : State → List ℕ
-register-flags s = register-bit s 0 ∷ register-bit s 1 ∷ register-bit s 2 ∷ register-bit s 3 ∷ register-bit s 4 ∷ register-bit s 5 ∷ register-bit s 6 ∷ register-bit s 7 ∷ []
+register-flags s = bit-at (s .flags) 0 ∷ bit-at (s .flags) 1 ∷ bit-at (s .flags) 2 ∷ bit-at (s .flags) 3 ∷ bit-at (s .flags) 4 ∷ bit-at (s .flags) 5 ∷ bit-at (s .flags) 6 ∷ bit-at (s .flags) 7 ∷ []
 
 abbrev pub collector-numbers : State → List ℕ
 collector-numbers s = s .top ∷ s .free ∷ s .phase ∷ s .live ∷ s .current ∷ s .next ∷ s .src ∷ s .dest ∷ s .tuple ∷ s .size ∷ s .index ∷ []

@@ -6,6 +6,7 @@ use mathlib.Core.Bool.{Bool, true, false, not, cond}
 use mathlib.Core.List.{List, [], _∷_}
 use lib.Dec.{eqb}
 use lib.ListN.{getD}
+use Rattle.rules.specs.Parts.{Box}
 use Rattle.memory.specs.declared.state.State.{State}
 
 abbrev pub state-length : ℕ
@@ -30,16 +31,15 @@ decoded l = record { m = at l 0; h = at l 1; registers = at l 2 ∷ at l 3 ∷ a
 abbrev pub bit : Bool → ℕ
 bit t = cond t 1 0
 
-abbrev pub register-at : State → ℕ → ℕ
-register-at s i = getD (s .registers) i 0
+abbrev pub bit-at : List Bool → ℕ → ℕ
+bit-at l i = bit (getD l i false)
 
-abbrev pub register-bit : State → ℕ → ℕ
-register-bit s i = bit (getD (s .flags) i false)
-
-unfoldable pub encoded : State → List ℕ
-encoded s =
-    s .m ∷ s .h
-    ∷ register-at s 0 ∷ register-at s 1 ∷ register-at s 2 ∷ register-at s 3 ∷ register-at s 4 ∷ register-at s 5 ∷ register-at s 6 ∷ register-at s 7
-    ∷ register-bit s 0 ∷ register-bit s 1 ∷ register-bit s 2 ∷ register-bit s 3 ∷ register-bit s 4 ∷ register-bit s 5 ∷ register-bit s 6 ∷ register-bit s 7
-    ∷ s .top ∷ s .free ∷ s .phase ∷ s .live ∷ s .current ∷ s .next ∷ s .src ∷ s .dest ∷ s .tuple ∷ s .size ∷ s .index
-    ∷ s .copy ∷ bit (s .«copy_flag») ∷ bit (s .held) ∷ bit (s .begun) ∷ s .«hold_register» ∷ s .«hold_size» ∷ s .«hold_tag» ∷ []
+unfoldable pub encoded : Box → List ℕ
+encoded b =
+    b .m ∷ b .h
+    ∷ at (b .registers .words) 0 ∷ at (b .registers .words) 1 ∷ at (b .registers .words) 2 ∷ at (b .registers .words) 3 ∷ at (b .registers .words) 4 ∷ at (b .registers .words) 5 ∷ at (b .registers .words) 6 ∷ at (b .registers .words) 7
+    ∷ bit-at (b .registers .flags) 0 ∷ bit-at (b .registers .flags) 1 ∷ bit-at (b .registers .flags) 2 ∷ bit-at (b .registers .flags) 3 ∷ bit-at (b .registers .flags) 4 ∷ bit-at (b .registers .flags) 5 ∷ bit-at (b .registers .flags) 6 ∷ bit-at (b .registers .flags) 7
+    ∷ b .top ∷ b .free ∷ b .collector .phase ∷ b .collector .live ∷ b .collector .current ∷ b .collector .next
+    ∷ b .collector .src ∷ b .collector .dest ∷ b .collector .tuple ∷ b .collector .size ∷ b .collector .index
+    ∷ b .collector .copy .bits ∷ bit (b .collector .copy .flag)
+    ∷ bit (b .hold .held) ∷ bit (b .hold .begun) ∷ b .hold .register ∷ b .hold .size ∷ b .hold .tag ∷ []

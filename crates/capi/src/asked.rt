@@ -1,9 +1,9 @@
 // What the numbers of a call ask for.
-use memory::Request;
+use rules::Request;
 ghost use mathlib.Core.Path.{_≡_};
 ghost use mathlib.Core.Bool.{_&&_};
 ghost use Prim.Native.Nat.{_<_};
-ghost use Rattle.memory.specs.declared.kinds.Request.the-variants.{Setd, Nil, Move, Advance, Getm, Load, Store, Size, Tag, Same};
+ghost use Rattle.rules.specs.declared.kinds.Request.the-variants.{Setd, Nil, Move, Advance, Getm, Load, Store, Size, Tag, Same};
 ghost use Rattle.capi.specs.Calls.{half, if-right, request-of};
 ghost use Rattle.capi.specs.Asked.{asked-as};
 

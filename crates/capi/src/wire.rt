@@ -1,10 +1,12 @@
 // The 36 numbers in which a state is lent: what stands where is said in specs/Wire.antt.
 use memory::State;
 ghost use mathlib.Core.Path.{_≡_};
-ghost use mathlib.Core.List.{[], _∷_};
-ghost use Prim.Native.Nat.{_%_};
+ghost use mathlib.Core.Bool.{Bool};
+ghost use mathlib.Core.List.{List, [], _∷_};
+ghost use Prim.Native.Nat.{ℕ, _%_};
 ghost use lib.ListN.{length};
 ghost use lib.Seq.{sets};
+ghost use Rattle.memory.specs.Boxed.{boxed};
 ghost use Rattle.capi.specs.Wire.{state-length, at, flag-at, decoded, encoded};
 ghost use Rattle.capi.specs.Parts.{sizes-registers, register-flags, collector-numbers, copy-hold};
 
@@ -156,10 +158,10 @@ fn put_hold(s: State, state: &mut [u32])
     state[35] = tag;
 }
 
-// The 36 numbers become those of the state.
+// The 36 numbers become those of the state, whatever the columns of its box are.
 pub fn encode(s: State, state: &mut [u32])
     requires { ⌜ length (now state) ≡ state-length ⌝ }
-    ensures { λ _. ⌜ now (state .exit) ≡ encoded s ⌝ }
+    ensures { λ _. ⌜ ((ws : List ℕ) (fs : List Bool) (ads ss ls : List ℕ) (ms ds : List Bool) → now (state .exit) ≡ encoded (boxed ws fs ads ss ls ms ds s)) ⌝ }
 {
     put_registers(s, state);
     put_flags(s, state);

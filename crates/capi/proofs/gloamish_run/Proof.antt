@@ -61,7 +61,7 @@ same-length-8 c = c .before .before .before .before .before .before .before .bef
 
 returns-2 : tie.Need-returns-2
 unfolding c-run
-returns-2 c = let a = c .before .before .before .before .before .before .before .before .before .before .before .before .before .before .before .before .before .before .before .before .before .before .before .before .before .before .before .before .before .before .before .before .before .before .before .before .before .before .before .before .args in understood-run (a .budget) (lent (now (a .state)) (now (a .words)) (now (a .flags)) (now (a .addresses)) (now (a .sizes)) (now (a .links)) (now (a .marks)) (now (a .deeps))) _ _ _ _ _ (c .before .before .before .before .before .before .before .before .before .before .before .before .before .before .before .before .before .before .before .before .before .before .before .before .before .before .before .before .before .before .before .if1 .left) (c .before .before .before .before .before .before .before .before .before .before .before .before .before .before .before .before .before .before .before .before .before .before .before .before .before .before .before .before .before .decode .ensures) (c .before .before .before .before .before .before .before .before .before .before .before .before .before .before .before .before .before .before .before .before .before .run .ensures) (c .before .before .before .before .encode .ensures) (c .before .wide2 .ensures .0) (c .wide3 .ensures .0)
+returns-2 c = let a = c .before .before .before .before .before .before .before .before .before .before .before .before .before .before .before .before .before .before .before .before .before .before .before .before .before .before .before .before .before .before .before .before .before .before .before .before .before .before .before .before .args in let k = c .before .before .before .before .before .before .before .before .before .before .before .before .before .before .before .before .before .before .before .before .before .run in understood-run (a .budget) (lent (now (a .state)) (now (a .words)) (now (a .flags)) (now (a .addresses)) (now (a .sizes)) (now (a .links)) (now (a .marks)) (now (a .deeps))) _ _ _ _ _ (c .before .before .before .before .before .before .before .before .before .before .before .before .before .before .before .before .before .before .before .before .before .before .before .before .before .before .before .before .before .before .before .if1 .left) (c .before .before .before .before .before .before .before .before .before .before .before .before .before .before .before .before .before .before .before .before .before .before .before .before .before .before .before .before .before .decode .ensures) (k .ensures) (c .before .before .before .before .encode .ensures (k .last .1 .1 .0) (k .last .1 .1 .1 .0) (k .last .1 .1 .1 .1 .0) (k .last .1 .1 .1 .1 .1 .0) (k .last .1 .1 .1 .1 .1 .1 .0) (k .last .1 .1 .1 .1 .1 .1 .1 .0) (k .last .1 .1 .1 .1 .1 .1 .1 .1 .0)) (c .before .wide2 .ensures .0) (c .wide3 .ensures .0)
 
 pub gloamish-run-spec : {M : Type 1} → statement M
 gloamish-run-spec =
