@@ -1,7 +1,7 @@
 // A box with its own buffers, 16 words and 4 entries, that goes through a case by value.
 use crate::show::number;
-use memory::Request;
 use memory::State;
+use rules::Request;
 
 // The box, and what the last call answered.
 pub struct Bench {

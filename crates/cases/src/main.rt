@@ -4,7 +4,7 @@ mod bench;
 mod show;
 
 use bench::Bench;
-use memory::Request;
+use rules::Request;
 
 // More steps than any cycle of such a box takes: 8 times 16, and 2.
 const CYCLE: u32 = 130;
