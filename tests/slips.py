@@ -1,7 +1,7 @@
 #!/usr/bin/env python3
 """Demand 3 shuts out the five "slips that look right" of document 01.
 
-Each slip is made, one at a time, in the definitions of a copy of crates/memory. Over the copy three things are checked:
+Each slip is made, one at a time, in the definitions of a copy of crates/rules. Over the copy three things are checked:
 whether the twelve bench cases (`every-case`) still hold; that the proof of demand 3 is refused, and at which lemmas, without
 those that only rest on refused ones; and that demand 3 itself is false there, so that no proof of it can be found: from the
 claim and one short list of calls a contradiction is proved. Without a slip demand 3 is proved and each of these lists is refused.
@@ -9,7 +9,7 @@ claim and one short list of calls a contradiction is proved. Without a slip dema
     tests/slips.py            the control and every slip: a few minutes
     tests/slips.py 3 4a       these alone
 
-Only definitions and proofs about them are looked at: the code of the copy is left out, down to its types.
+Only definitions and proofs about them are looked at, and no code.
 """
 import os
 import re
@@ -22,7 +22,7 @@ ROOT = os.path.dirname(os.path.dirname(os.path.abspath(__file__)))
 
 
 class Slip:
-    """A slip, its edits of crates/memory/specs (file, old text, new text), calls that show it on a box opened 16, 4, what is
+    """A slip, its edits of crates/rules/specs (file, old text, new text), calls that show it on a box opened 16, 4, what is
     seen then in words, and the contradiction: a term of type ⊥, where x is demand 3 of the world that the calls leave."""
 
     def __init__(self, number, title, edits, calls, seen, contradiction):
@@ -39,7 +39,7 @@ SLIPS = [
     Slip(
         "1",
         "an in-place sweep ends without unmarking the last tuple",
-        [("Collector.antt", "(end-cycle found (set-mark (b .state .tuple) false b))", "(end-cycle found b)")],
+        [("Collector.antt", "(end-cycle found (set-mark (b .collector .tuple) false b))", "(end-cycle found b)")],
         ["ask (Getm 1 1 0)", "ask (Getm 0 1 0)", "ask (Store 1 0 0)", "ask (Nil 1)", "run-for 99", "run-for 99"]
         + ["ask (Load 2 0 0)", "ask (Load 3 2 0)"],
         "part 1, agreement: the second tuple names the first. In the second cycle it is still marked and not scanned, and the "
@@ -60,19 +60,19 @@ SLIPS = [
         "3",
         "registers are looked at only when marking starts: all of them before the first scan, and none after it",
         [
-            ("Collector.antt", "(with-next 0 (with-phase 1 (b .state)))", "(with-next 0 (with-index 0 (with-phase 1 (b .state))))"),
+            ("Collector.antt", "(with-next 0 (with-phase 1 b))", "(with-next 0 (with-index 0 (with-phase 1 b)))"),
             (
                 "Collector.antt",
                 "mark-root nothing b = end-marking b",
                 "mark-root nothing b =\n"
-                "    cond (eqb (b .state .next) 0) (end-marking b)\n"
-                "    (cond (is-entry (b .state .next) b) (going (scan (b .state .next) (with-state (with-next 0 (b .state)) b)))\n"
+                "    cond (eqb (b .collector .next) 0) (end-marking b)\n"
+                "    (cond (is-entry (b .collector .next) b) (going (scan (b .collector .next) (with-next 0 b)))\n"
                 "    (reply b 9))",
             ),
             (
                 "Collector.antt",
-                "mark-next b = cond (eqb (b .state .next) 0) (mark-root (look-from register-count b) b) (scan-next b)",
-                "mark-next b = mark-root (cond (eqb (b .state .index) 0) (look-from register-count b) nothing) b",
+                "mark-next b = cond (eqb (b .collector .next) 0) (mark-root (look-from register-count b) b) (scan-next b)",
+                "mark-next b = mark-root (cond (eqb (b .collector .index) 0) (look-from register-count b) nothing) b",
             ),
         ],
         ["ask (Getm 0 1 0)", "ask (Getm 1 1 7)", "ask (Store 1 0 0)", "ask (Nil 1)", "single-step", "single-step", "single-step"]
@@ -101,8 +101,7 @@ SLIPS = [
                 "mark-root (unmarked h) b = cond (can-shade h b) (going (shade h b)) (reply b 9)",
                 "mark-root (unmarked h) b =\n"
                 "    cond (can-shade h b)\n"
-                "    (going\n"
-                "    (with-state (with-live (b .state .live + counted register-count h b) (shade h b .state)) (shade h b)))\n"
+                "    (going (with-live (b .collector .live + counted register-count h b) (shade h b)))\n"
                 "    (reply b 9)",
             ),
         ],
@@ -126,7 +125,7 @@ SLIPS = [
         [
             (
                 "Collector.antt",
-                "end-marking b = cond (eqb (b .state .top) 0) (end-cycle b b) (going (begin-sweep b))",
+                "end-marking b = cond (eqb (b .top) 0) (end-cycle b b) (going (begin-sweep b))",
                 "end-marking b = going (begin-sweep b)",
             )
         ],
@@ -159,37 +158,25 @@ def one_line(text):
 # ---- the copy
 
 
-def types_alone(text):
-    """What a source file declares, without its functions: `mod` lines and, whole, its structs and enums."""
-    mods = re.findall(r"^(?:pub )?mod \w+;", text, re.M)
-    types = re.findall(r"^(?:#\[[^\n]*\]\n)*(?:pub )?(?:struct|enum) \w+[^;{]*\{.*?^\}", text, re.M | re.S)
-    uses = re.findall(r"^(?:pub )?use [\w:]*::[A-Z]\w*;", text, re.M) if mods or types else []
-    return "\n".join(mods + uses + types) + "\n"
-
-
 class Copy:
-    """A repository of memory's types and definitions and all of history."""
+    """A repository of the crates rules and history."""
 
     def __init__(self, where):
         self.where = where
-        self.memory = os.path.join(where, "crates", "memory")
+        self.rules = os.path.join(where, "crates", "rules")
         self.history = os.path.join(where, "crates", "history")
-        shutil.copytree(os.path.join(ROOT, "crates", "memory", "src"), os.path.join(self.memory, "src"))
-        for folder, _, names in os.walk(os.path.join(self.memory, "src")):
-            for name in names:
-                path = os.path.join(folder, name)
-                write(path, types_alone(read(path)))
+        shutil.copytree(os.path.join(ROOT, "crates", "rules", "src"), os.path.join(self.rules, "src"))
         for part in ("src", "specs"):
             shutil.copytree(os.path.join(ROOT, "crates", "history", part), os.path.join(self.history, part))
-        write(os.path.join(where, "crates.txt"), "memory:\nhistory: memory\n")
+        write(os.path.join(where, "crates.txt"), "rules:\nhistory: rules\n")
         self.edit([])
         self.proofs_of_demand3()
 
     def edit(self, edits):
         """The definitions with these edits, and with no other."""
-        specs = os.path.join(self.memory, "specs")
+        specs = os.path.join(self.rules, "specs")
         shutil.rmtree(specs, ignore_errors=True)
-        shutil.copytree(os.path.join(ROOT, "crates", "memory", "specs"), specs)
+        shutil.copytree(os.path.join(ROOT, "crates", "rules", "specs"), specs)
         for name, old, new in edits:
             text = read(os.path.join(specs, name))
             if text.count(old) != 1:
@@ -198,7 +185,7 @@ class Copy:
 
     def refused_cases(self):
         """The bench cases that don't hold: `every-case` gives way to one lemma for each case."""
-        path = os.path.join(self.memory, "specs", "Cases.antt")
+        path = os.path.join(self.rules, "specs", "Cases.antt")
         text = read(path)
         opens = re.search(r"^pub every-case .*\n(unfolding .*\n)", text, re.M)
         parts = [text[: opens.start()], "abbrev case-holds : ℕ → List Case → Bool\n", "case-holds n [] = true\n"]
@@ -206,10 +193,10 @@ class Copy:
         for at in range(12):
             parts.append(f"\nP{at + 1} : case-holds {at} table ≡ true\n{opens.group(1)}P{at + 1} = refl\n")
         write(path, "".join(parts))
-        return [name for _, _, name, _ in self.check("memory")[1]]
+        return [name for _, _, name, _ in self.check("rules")[1]]
 
     def leave_cases_out(self):
-        specs = os.path.join(self.memory, "specs")
+        specs = os.path.join(self.rules, "specs")
         write(os.path.join(specs, "Lib.antt"), read(os.path.join(specs, "Lib.antt")).replace("pub mod Cases\n", ""))
         os.remove(os.path.join(specs, "Cases.antt"))
 
@@ -228,22 +215,22 @@ class Copy:
 
     def refuted(self, slips):
         uses, opens = [], []
-        for crate, path in (("memory", "Rattle.memory.specs"), ("history", "Rattle.history.specs")):
+        for crate, path in (("rules", "Rattle.rules.specs"), ("history", "Rattle.history.specs")):
             for name in ("Limits", "Box", "Place", "Request", "Collector", "Run", "Open", "Machine", "Calls"):
                 file = os.path.join(self.where, "crates", crate, "specs", name + ".antt")
                 if os.path.exists(file):
                     names = re.findall(r"^unfoldable pub (\S+)", read(file), re.M)
                     opens += names
                     uses.append(f"use {path}.{name}.{{{', '.join(names)}}}")
-        kinds = re.search(r"declared\.\w+\.Request\.the-variants", read(os.path.join(self.memory, "specs", "Request.antt")))
+        kinds = re.search(r"declared\.\w+\.Request\.the-variants", read(os.path.join(self.rules, "specs", "Request.antt")))
         lines = [
             "use Prim.Native.Nat.{ℕ, _≤_, _<_}",
             "use mathlib.Core.Bool.{true, false, true≢false}",
             "use mathlib.Core.List.{List, [], _∷_}",
             "use mathlib.Core.Path.{_≡_, refl, ap}",
             "use native.Mathlib.Omega.{arith}",
-            f"use Rattle.memory.specs.{kinds.group(0)}.{{Nil, Move, Getm, Load, Store, Tag}}",
-            "use Rattle.memory.specs.Box.{Word}",
+            f"use Rattle.rules.specs.{kinds.group(0)}.{{Nil, Move, Getm, Load, Store, Tag}}",
+            "use Rattle.rules.specs.Parts.{Word}",
             *uses,
             "use Rattle.history.specs.Machine.{Call, ask, single-step, run-for}",
             "use Rattle.history.specs.Calls.{start}",
@@ -306,7 +293,7 @@ def show_refused(copy, errors):
 
 
 def control(copy):
-    cases, _ = copy.check("memory")
+    cases, _ = copy.check("rules")
     proved = cases and copy.check("history")[0]
     print(f"no slip: the twelve bench cases {'hold' if cases else 'are REFUSED'}, demand 3 is {'proved' if proved else 'NOT PROVED'}", flush=True)
     copy.refutations(SLIPS)
@@ -327,14 +314,14 @@ def try_slip(copy, slip):
         else:
             print(f"  specs/{name}: {one_line(old)}\n    becomes {one_line(new)}")
 
-    cases, errors = copy.check("memory")
+    cases, errors = copy.check("rules")
     others = [e for e in errors if not e[0].endswith("specs/Cases.antt")]
     if others:
         fail(f"slip {slip.number} is no definition: {others[0]}")
     print(f"  the twelve bench cases: {'all hold' if cases else '`every-case` is refused, for ' + ', '.join(copy.refused_cases())}")
     if not cases:
         copy.leave_cases_out()
-        if not copy.check("memory")[0]:
+        if not copy.check("rules")[0]:
             fail(f"slip {slip.number}: the definitions without the bench cases are refused")
 
     copy.proofs_of_demand3()
