@@ -1,5 +1,5 @@
--- What a step decides before it writes anything. Each of these is a part of a rule of specs/Collector.antt, said by itself;
--- that it decides that rule is proved with the code.
+-- What a step decides before it writes anything. Each of these is a part of a rule of crates/rules/specs/Collector.antt, said by
+-- itself; that it decides that rule is proved with the code.
 use Prim.Native.Nat.{ℕ, _+_, _<_, _≤_}
 use mathlib.Core.Bool.{Bool, not, cond, _&&_, _||_}
 use lib.Dec.{leb, ltb, eqb}

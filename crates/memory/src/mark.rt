@@ -1,5 +1,5 @@
 // The collector's marking: phases 2 and 3, and how a tuple is taken to scan. Each method is the rule of that name in
-// specs/Collector.antt.
+// crates/rules/specs/Collector.antt.
 use crate::place::reaches;
 use crate::state::Answered;
 use crate::state::State;

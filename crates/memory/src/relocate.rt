@@ -1,4 +1,5 @@
-// How the sweep moves a tuple and clears words, phases 5 to 8. Each method is the rule of that name in specs/Collector.antt.
+// How the sweep moves a tuple and clears words, phases 5 to 8. Each method is the rule of that name in
+// crates/rules/specs/Collector.antt.
 use crate::place::reaches;
 use crate::state::Answered;
 use crate::state::State;

@@ -6,7 +6,7 @@ ghost use Rattle.rules.specs.Parts.{Box};
 ghost use Rattle.rules.specs.Box.{lengths-are, right-sizes, sound};
 ghost use Rattle.memory.specs.Boxed.{HasLengths};
 
-// The limits of document 01, as in specs/Limits.antt.
+// The limits of document 01, as in crates/rules/specs/Limits.antt.
 const LEAST_WORDS: u32 = 16;
 
 const MOST_WORDS: u32 = 8192;

@@ -1,4 +1,4 @@
-// The collector's sweep over the tuples, phase 4. Each method is the rule of that name in specs/Collector.antt.
+// The collector's sweep over the tuples, phase 4. Each method is the rule of that name in crates/rules/specs/Collector.antt.
 use crate::place::reaches;
 use crate::state::Answered;
 use crate::state::State;
