@@ -9,8 +9,8 @@ fn main() {
     println!("cargo::rerun-if-changed=build.rs");
     println!("cargo::rerun-if-changed={}", library.display());
     if !library.exists() {
-        println!("cargo::error=target/staticlib/libcapi.a is missing: run `rt staticlib capi` first, in the root of the repository");
-        return;
+        // `cargo check` needs no library; whatever is linked does, and fails.
+        println!("cargo::warning=target/staticlib/libcapi.a is missing: run `rt staticlib capi` first, in the root of the repository");
     }
     println!("cargo::rustc-link-search=native={}", folder.display());
     println!("cargo::rustc-link-lib=static=capi");

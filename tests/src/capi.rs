@@ -6,38 +6,17 @@ use std::fmt::Debug;
 use crate::call::Request;
 use crate::unit::{Hold, State, Unit, Word};
 
-/// How many numbers a state is.
-pub const STATE: usize = 36;
+/// How long the three arrays of a state are.
+pub const NUMBERS: usize = 22;
+pub const SWITCHES: usize = 11;
+pub const HOLD: usize = 3;
 
-/// The answer to a state of another length, an unknown kind or a 16-bit field
-/// above 65,535.
+/// The answer to an unknown kind or a 16-bit field above 65,535.
 pub const NOT_UNDERSTOOD: u32 = u32::MAX;
 
-/// The numbers of a state that are flags.
-pub const FLAGS: [usize; 11] = [10, 11, 12, 13, 14, 15, 16, 17, 30, 31, 32];
-
-/// The numbers of a state that count modulo 65,536.
-pub const HALVES: [usize; 3] = [33, 34, 35];
-
-const NAMES: [&str; STATE] = [
+const NUMBER_NAMES: [&str; NUMBERS] = [
     "M",
     "H",
-    "register 0",
-    "register 1",
-    "register 2",
-    "register 3",
-    "register 4",
-    "register 5",
-    "register 6",
-    "register 7",
-    "flag of register 0",
-    "flag of register 1",
-    "flag of register 2",
-    "flag of register 3",
-    "flag of register 4",
-    "flag of register 5",
-    "flag of register 6",
-    "flag of register 7",
     "top",
     "free",
     "phase",
@@ -50,23 +29,42 @@ const NAMES: [&str; STATE] = [
     "size",
     "index",
     "copy",
+    "register 0",
+    "register 1",
+    "register 2",
+    "register 3",
+    "register 4",
+    "register 5",
+    "register 6",
+    "register 7",
+];
+
+const SWITCH_NAMES: [&str; SWITCHES] = [
+    "flag of register 0",
+    "flag of register 1",
+    "flag of register 2",
+    "flag of register 3",
+    "flag of register 4",
+    "flag of register 5",
+    "flag of register 6",
+    "flag of register 7",
     "flag of copy",
     "held",
     "begun",
-    "hold register",
-    "hold size",
-    "hold tag",
 ];
 
-/// Declares functions whose last arguments are the state and the columns,
-/// each a pointer and a length.
+const HOLD_NAMES: [&str; HOLD] = ["hold register", "hold size", "hold tag"];
+
+/// Declares functions whose last arguments are the state's three arrays, each
+/// a plain pointer, and the columns, each a pointer and a length.
 macro_rules! functions {
     ($($name:ident($($first:ident: $type:ty),*) -> $answer:ty;)*) => {
         extern "C" {
             $(fn $name(
                 $($first: $type,)*
-                state: *mut u32,
-                state_length: usize,
+                numbers: *mut [u32; NUMBERS],
+                switches: *mut [u8; SWITCHES],
+                hold: *mut [u16; HOLD],
                 words: *mut u32,
                 words_length: usize,
                 flags: *mut u8,
@@ -93,16 +91,17 @@ functions! {
     gloamish_run(budget: u32) -> u64;
 }
 
-/// Calls a function with the state and the columns of the lent parts.
+/// Calls a function with the arrays and the columns of the lent parts.
 macro_rules! lend {
     ($lent:expr, $function:ident($($first:expr),*)) => {
         // The pointers are to the parts' own buffers, with their lengths, and
-        // nothing else refers to them during the call.
+        // nothing else refers to them during the call. Flags are 0 or 1.
         unsafe {
             $function(
                 $($first,)*
-                $lent.state.pointer(),
-                $lent.state.len(),
+                $lent.numbers.array(),
+                $lent.switches.array(),
+                $lent.hold.array(),
                 $lent.words.pointer(),
                 $lent.words.len(),
                 $lent.flags.pointer(),
@@ -122,7 +121,7 @@ macro_rules! lend {
     };
 }
 
-/// A number a column is made of.
+/// A number a lent part is made of.
 pub trait Cell: Copy + PartialEq + Debug {
     /// What guard cells hold.
     const GUARD: Self;
@@ -132,14 +131,18 @@ impl Cell for u32 {
     const GUARD: u32 = 0xA5C3_7E19;
 }
 
+impl Cell for u16 {
+    const GUARD: u16 = 0xA5C3;
+}
+
 impl Cell for u8 {
     const GUARD: u8 = 0xA5;
 }
 
-/// Guard cells before and after a column.
-const GUARDS: usize = 8;
+/// Guard cells before and after a lent part.
+pub const GUARDS: usize = 8;
 
-/// A lent slice, with guard cells around it that must stay as they are.
+/// A lent array or column, with guard cells around it that must stay as they are.
 #[derive(Clone, PartialEq, Eq, Debug)]
 pub struct Column<T>(Vec<T>);
 
@@ -181,7 +184,13 @@ impl<T: Cell> Column<T> {
     }
 
     fn pointer(&mut self) -> *mut T {
-        self.cells_mut().as_mut_ptr()
+        self.0.as_mut_ptr().wrapping_add(GUARDS)
+    }
+
+    /// The cells as an array, which must be so long.
+    fn array<const N: usize>(&mut self) -> *mut [T; N] {
+        assert_eq!(self.len(), N);
+        self.pointer().cast()
     }
 
     fn guarded(&self) -> bool {
@@ -197,7 +206,9 @@ impl<T: Cell> Column<T> {
 /// Everything a function of the library is lent.
 #[derive(Clone, PartialEq, Eq, Debug)]
 pub struct Lent {
-    pub state: Column<u32>,
+    pub numbers: Column<u32>,
+    pub switches: Column<u8>,
+    pub hold: Column<u16>,
     pub words: Column<u32>,
     pub flags: Column<u8>,
     pub addresses: Column<u32>,
@@ -210,8 +221,11 @@ pub struct Lent {
 impl Lent {
     /// The same box as the second program's.
     pub fn of(unit: &Unit) -> Lent {
+        let arrays = encode(&unit.state);
         Lent {
-            state: Column::of(&encode(&unit.state)),
+            numbers: Column::of(&arrays.numbers),
+            switches: Column::of(bytes(&arrays.switches)),
+            hold: Column::of(&arrays.hold),
             words: Column::of(&unit.words),
             flags: Column::of(bytes(&unit.pointers)),
             addresses: Column::of(&unit.addresses),
@@ -224,7 +238,10 @@ impl Lent {
 
     /// As `of`, in the buffers at hand.
     pub fn take(&mut self, unit: &Unit) {
-        self.state.take(&encode(&unit.state));
+        let arrays = encode(&unit.state);
+        self.numbers.take(&arrays.numbers);
+        self.switches.take(bytes(&arrays.switches));
+        self.hold.take(&arrays.hold);
         self.words.take(&unit.words);
         self.flags.take(bytes(&unit.pointers));
         self.addresses.take(&unit.addresses);
@@ -252,10 +269,13 @@ impl Lent {
         lend!(self, gloamish_run(budget))
     }
 
-    /// True if every number is the same as in the second program's box, and
-    /// the guard cells are as they were.
+    /// True if every cell of every part is the same as in the second
+    /// program's box, and the guard cells are as they were.
     pub fn same(&self, unit: &Unit) -> bool {
-        self.state.same(&encode(&unit.state))
+        let arrays = encode(&unit.state);
+        self.numbers.same(&arrays.numbers)
+            && self.switches.same(bytes(&arrays.switches))
+            && self.hold.same(&arrays.hold)
             && self.words.same(&unit.words)
             && self.flags.same(bytes(&unit.pointers))
             && self.addresses.same(&unit.addresses)
@@ -265,48 +285,58 @@ impl Lent {
             && self.deeps.same(bytes(&unit.deeps))
     }
 
-    /// The numbers that differ from those of other parts, by name.
+    /// The cells that differ from those of other parts, by name.
     pub fn differences(&self, other: &Lent) -> Vec<String> {
         let mut found = Vec::new();
-        let state_name = |at: usize| NAMES.get(at).map(|name| name.to_string());
-        compare(&mut found, "state", state_name, &self.state, &other.state);
-        let unnamed = |_| None;
-        compare(&mut found, "words", unnamed, &self.words, &other.words);
-        compare(&mut found, "flags", unnamed, &self.flags, &other.flags);
-        let (own, others) = (&self.addresses, &other.addresses);
-        compare(&mut found, "addresses", unnamed, own, others);
-        compare(&mut found, "sizes", unnamed, &self.sizes, &other.sizes);
-        compare(&mut found, "links", unnamed, &self.links, &other.links);
-        compare(&mut found, "marks", unnamed, &self.marks, &other.marks);
-        compare(&mut found, "deeps", unnamed, &self.deeps, &other.deeps);
+        macro_rules! parts {
+            ($($part:ident: $names:expr,)*) => {
+                $(let part = stringify!($part);
+                compare(&mut found, part, $names, &self.$part, &other.$part);)*
+            };
+        }
+        parts! {
+            numbers: &NUMBER_NAMES,
+            switches: &SWITCH_NAMES,
+            hold: &HOLD_NAMES,
+            words: &[],
+            flags: &[],
+            addresses: &[],
+            sizes: &[],
+            links: &[],
+            marks: &[],
+            deeps: &[],
+        }
         found
     }
 }
 
-/// Adds the cells of two columns that differ.
+/// Adds the cells of two parts that differ.
 fn compare<T: Cell>(
     found: &mut Vec<String>,
-    column: &str,
-    name: impl Fn(usize) -> Option<String>,
+    part: &str,
+    names: &[&str],
     library: &Column<T>,
     second: &Column<T>,
 ) {
     if library.len() != second.len() {
         let (library, second) = (library.len(), second.len());
         found.push(format!(
-            "length of {column}: {library}, second program {second}"
+            "length of {part}: {library}, second program {second}"
         ));
         return;
     }
     let pairs = library.cells().iter().zip(second.cells());
     for (at, (library, second)) in pairs.enumerate() {
         if library != second {
-            let name = name(at).unwrap_or(format!("{column}[{at}]"));
+            let name = match names.get(at) {
+                Some(name) => name.to_string(),
+                None => format!("{part}[{at}]"),
+            };
             found.push(format!("{name}: {library:?}, second program {second:?}"));
         }
     }
     if !library.guarded() || !second.guarded() {
-        found.push(format!("written outside {column}"));
+        found.push(format!("written outside {part}"));
     }
 }
 
@@ -316,75 +346,97 @@ pub fn bytes(flags: &[bool]) -> &[u8] {
     unsafe { std::slice::from_raw_parts(flags.as_ptr().cast(), flags.len()) }
 }
 
-/// A state as 36 numbers.
-pub fn encode(state: &State) -> [u32; STATE] {
-    let mut numbers = [0; STATE];
-    numbers[0] = state.m;
-    numbers[1] = state.h;
-    for (r, word) in state.registers.iter().enumerate() {
-        numbers[2 + r] = word.bits;
-        numbers[10 + r] = u32::from(word.pointer);
-    }
-    numbers[18] = state.top;
-    numbers[19] = state.free;
-    numbers[20] = state.phase;
-    numbers[21] = state.live;
-    numbers[22] = state.current;
-    numbers[23] = state.next;
-    numbers[24] = state.src;
-    numbers[25] = state.dest;
-    numbers[26] = state.tuple;
-    numbers[27] = state.size;
-    numbers[28] = state.index;
-    numbers[29] = state.copy.bits;
-    numbers[30] = u32::from(state.copy.pointer);
-    numbers[31] = u32::from(state.hold.held);
-    numbers[32] = u32::from(state.hold.begun);
-    numbers[33] = u32::from(state.hold.register);
-    numbers[34] = u32::from(state.hold.size);
-    numbers[35] = u32::from(state.hold.tag);
-    numbers
+/// A state as the three arrays in which it is lent.
+#[derive(Clone, Copy, PartialEq, Eq, Debug)]
+pub struct Arrays {
+    pub numbers: [u32; NUMBERS],
+    pub switches: [bool; SWITCHES],
+    pub hold: [u16; HOLD],
 }
 
-/// The state that 36 numbers stand for.
-pub fn decode(numbers: &[u32; STATE]) -> State {
+pub fn encode(state: &State) -> Arrays {
+    let mut numbers = [0; NUMBERS];
+    let mut switches = [false; SWITCHES];
+    numbers[0] = state.m;
+    numbers[1] = state.h;
+    numbers[2] = state.top;
+    numbers[3] = state.free;
+    numbers[4] = state.phase;
+    numbers[5] = state.live;
+    numbers[6] = state.current;
+    numbers[7] = state.next;
+    numbers[8] = state.src;
+    numbers[9] = state.dest;
+    numbers[10] = state.tuple;
+    numbers[11] = state.size;
+    numbers[12] = state.index;
+    numbers[13] = state.copy.bits;
+    for (r, word) in state.registers.iter().enumerate() {
+        numbers[14 + r] = word.bits;
+        switches[r] = word.pointer;
+    }
+    switches[8] = state.copy.pointer;
+    switches[9] = state.hold.held;
+    switches[10] = state.hold.begun;
+    Arrays {
+        numbers,
+        switches,
+        hold: [state.hold.register, state.hold.size, state.hold.tag],
+    }
+}
+
+/// The state that three arrays stand for.
+pub fn decode(arrays: &Arrays) -> State {
+    let Arrays {
+        numbers,
+        switches,
+        hold,
+    } = arrays;
     let word = |bits: usize, flag: usize| Word {
         bits: numbers[bits],
-        pointer: numbers[flag] != 0,
+        pointer: switches[flag],
     };
-    let half = |at: usize| (numbers[at] % 65_536) as u16;
     State {
         m: numbers[0],
         h: numbers[1],
-        registers: std::array::from_fn(|r| word(2 + r, 10 + r)),
-        top: numbers[18],
-        free: numbers[19],
-        phase: numbers[20],
-        live: numbers[21],
-        current: numbers[22],
-        next: numbers[23],
-        src: numbers[24],
-        dest: numbers[25],
-        tuple: numbers[26],
-        size: numbers[27],
-        index: numbers[28],
-        copy: word(29, 30),
+        registers: std::array::from_fn(|r| word(14 + r, r)),
+        top: numbers[2],
+        free: numbers[3],
+        phase: numbers[4],
+        live: numbers[5],
+        current: numbers[6],
+        next: numbers[7],
+        src: numbers[8],
+        dest: numbers[9],
+        tuple: numbers[10],
+        size: numbers[11],
+        index: numbers[12],
+        copy: word(13, 8),
         hold: Hold {
-            held: numbers[31] != 0,
-            begun: numbers[32] != 0,
-            register: half(33),
-            size: half(34),
-            tag: half(35),
+            held: switches[9],
+            begun: switches[10],
+            register: hold[0],
+            size: hold[1],
+            tag: hold[2],
         },
     }
 }
 
-/// The numbers of a state that aren't 0, by name.
+/// The cells of a state that aren't 0, by name.
 pub fn named(state: &State) -> String {
-    let numbers = encode(state);
-    let named = NAMES.iter().zip(numbers).filter(|(_, number)| *number != 0);
-    let named: Vec<String> = named
-        .map(|(name, number)| format!("{name} {number}"))
+    let Arrays {
+        numbers,
+        switches,
+        hold,
+    } = encode(state);
+    let cells = numbers.into_iter();
+    let cells = cells.chain(switches.map(u32::from));
+    let cells = cells.chain(hold.map(u32::from));
+    let names = NUMBER_NAMES.iter().chain(&SWITCH_NAMES).chain(&HOLD_NAMES);
+    let named: Vec<String> = names
+        .zip(cells)
+        .filter(|(_, cell)| *cell != 0)
+        .map(|(name, cell)| format!("{name} {cell}"))
         .collect();
     named.join(", ")
 }
@@ -405,4 +457,47 @@ pub fn numbers(request: Request) -> [u32; 4] {
         Request::Tag { r, s } => [9, wide(r), wide(s), 0],
         Request::Same { r, s, t } => [10, wide(r), wide(s), wide(t)],
     }
+}
+
+/// The request that numbers ask for: nothing for an unknown kind, or where a
+/// 16-bit field is above 65,535.
+pub fn request_of([kind, a, b, c]: [u32; 4]) -> Option<Request> {
+    let half = |field: u32| u16::try_from(field).ok();
+    Some(match kind {
+        1 => Request::Setd { r: half(a)?, v: b },
+        2 => Request::Nil { r: half(a)? },
+        3 => {
+            let (r, s) = (half(a)?, half(b)?);
+            Request::Move { r, s }
+        }
+        4 => {
+            let (r, n) = (half(a)?, half(b)?);
+            Request::Advance { r, n }
+        }
+        5 => {
+            let (r, n, tag) = (half(a)?, half(b)?, half(c)?);
+            Request::Getm { r, n, tag }
+        }
+        6 => {
+            let (r, s, k) = (half(a)?, half(b)?, half(c)?);
+            Request::Load { r, s, k }
+        }
+        7 => {
+            let (r, s, k) = (half(a)?, half(b)?, half(c)?);
+            Request::Store { r, s, k }
+        }
+        8 => {
+            let (r, s) = (half(a)?, half(b)?);
+            Request::Size { r, s }
+        }
+        9 => {
+            let (r, s) = (half(a)?, half(b)?);
+            Request::Tag { r, s }
+        }
+        10 => {
+            let (r, s, t) = (half(a)?, half(b)?, half(c)?);
+            Request::Same { r, s, t }
+        }
+        _ => return None,
+    })
 }

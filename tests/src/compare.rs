@@ -1,6 +1,6 @@
 //! Another machine beside the second program: both get the same calls, and
-//! the answer, every cell of every column and the whole state are compared
-//! after each of them.
+//! the answer and every cell of all lent parts are compared after each of
+//! them, refused ones included.
 
 use crate::call::*;
 use crate::capi::{self, Lent};
@@ -14,8 +14,35 @@ use crate::unit::{State, Unit};
 pub enum Ask {
     Open(u32, u32),
     Request(Request),
+    /// A request by the number of its kind and its fields, which may be none.
+    Numbers([u32; 4]),
     Step,
     Run(u32),
+}
+
+impl Ask {
+    /// The request it is, if it is one.
+    fn request(self) -> Option<Request> {
+        match self {
+            Ask::Request(request) => Some(request),
+            Ask::Numbers(numbers) => capi::request_of(numbers),
+            _ => None,
+        }
+    }
+
+    /// True if this answer says that the call was refused, and so changes
+    /// nothing. A run is refused if it did no step and answers 9.
+    pub fn refused(self, answer: u64) -> bool {
+        const NONE: u32 = capi::NOT_UNDERSTOOD;
+        match self {
+            Ask::Run(_) => answer == u64::from(DAMAGED),
+            Ask::Step => answer == u64::from(DAMAGED),
+            Ask::Open(..) => answer == u64::from(NOT_OPENED),
+            Ask::Request(_) | Ask::Numbers(_) => {
+                matches!(answer as u32, NO_REGISTER..=BUSY | DAMAGED | NONE)
+            }
+        }
+    }
 }
 
 /// A machine that can be held against the second program.
@@ -30,7 +57,7 @@ pub trait Machine {
 
     fn same(&self, unit: &Unit) -> bool;
 
-    /// The numbers that aren't as in the second program's box, by name.
+    /// The cells that aren't as in the second program's box, by name.
     fn differences(&self, unit: &Unit) -> Vec<String>;
 }
 
@@ -47,6 +74,7 @@ impl Machine for Lent {
         match ask {
             Ask::Open(m, h) => self.open(m, h).into(),
             Ask::Request(request) => self.request(capi::numbers(request)).into(),
+            Ask::Numbers(numbers) => self.request(numbers).into(),
             Ask::Step => self.step().into(),
             Ask::Run(budget) => self.run(budget),
         }
@@ -73,7 +101,10 @@ impl Machine for Player {
     fn ask(&mut self, ask: Ask) -> u64 {
         match ask {
             Ask::Open(m, h) => self.open(m, h).into(),
-            Ask::Request(request) => self.request(request).into(),
+            Ask::Request(_) | Ask::Numbers(_) => {
+                let done = ask.request().map(|request| self.request(request));
+                done.unwrap_or(capi::NOT_UNDERSTOOD).into()
+            }
             Ask::Step => self.step().into(),
             Ask::Run(budget) => {
                 let ran = self.run(budget);
@@ -102,7 +133,12 @@ impl Machine for Player {
 pub fn second(unit: &mut Unit, fault: Fault, ask: Ask) -> u64 {
     match ask {
         Ask::Open(m, h) => unit.open(m, h).into(),
-        Ask::Request(request) => unit.request_with(fault, request).into(),
+        Ask::Request(_) | Ask::Numbers(_) => {
+            let done = ask
+                .request()
+                .map(|request| unit.request_with(fault, request));
+            done.unwrap_or(capi::NOT_UNDERSTOOD).into()
+        }
         Ask::Step => unit.step_with(fault).into(),
         Ask::Run(budget) => {
             let ran = unit.run_with(fault, budget);
@@ -123,8 +159,13 @@ pub fn run_column(answer: u32) -> usize {
 /// How often each answer came, and where.
 #[derive(Clone, Debug)]
 pub struct Counts {
+    /// Calls after which the answer and all lent parts were compared.
     pub calls: u64,
+    /// Those of them that were refused.
+    pub refused: u64,
     pub answers: [u64; 34],
+    /// Requests by numbers that ask for none.
+    pub not_understood: u64,
     /// Steps in each phase that answered 9, and that didn't.
     pub phases: [[u64; 2]; 9],
     /// Requests of each kind that were done, and that weren't.
@@ -139,7 +180,9 @@ impl Default for Counts {
     fn default() -> Counts {
         Counts {
             calls: 0,
+            refused: 0,
             answers: [0; 34],
+            not_understood: 0,
             phases: [[0; 2]; 9],
             kinds: [[0; 2]; 10],
             runs: [[0; 4]; 2],
@@ -151,18 +194,24 @@ impl Default for Counts {
 impl Counts {
     fn add(&mut self, before: &State, sound: bool, ask: Ask, answer: u64) {
         self.calls += 1;
+        self.refused += u64::from(ask.refused(answer));
         let answer = match ask {
             Ask::Run(_) => answer % 256,
             _ => answer,
         };
+        if answer == u64::from(capi::NOT_UNDERSTOOD) {
+            self.not_understood += 1;
+            return;
+        }
         self.answers[answer as usize] += 1;
         match ask {
             Ask::Step if sound => {
                 let nine = answer == u64::from(DAMAGED);
                 self.phases[before.phase as usize][usize::from(!nine)] += 1;
             }
-            Ask::Request(request) if sound => {
-                let kind = capi::numbers(request)[0] as usize - 1;
+            Ask::Request(_) | Ask::Numbers(_) if sound => {
+                let numbers = ask.request().map(capi::numbers);
+                let kind = numbers.unwrap_or_default()[0] as usize - 1;
                 self.kinds[kind][usize::from(answer != 0)] += 1;
             }
             Ask::Run(_) => {
@@ -178,8 +227,14 @@ impl Counts {
             let named: Vec<String> = named.map(|(at, count)| format!("{at}: {count}")).collect();
             named.join(", ")
         };
-        println!("{name}: {} calls", self.calls);
+        println!(
+            "{name}: {} calls compared, {} of them refused",
+            self.calls, self.refused
+        );
         println!("{name}: answers {}", list(&self.answers));
+        if self.not_understood > 0 {
+            println!("{name}: not understood {}", self.not_understood);
+        }
         let phases: Vec<String> = self.phases.iter().map(|c| format!("{c:?}")).collect();
         println!("{name}: steps by phase [9, others] {}", phases.join(" "));
         let kinds: Vec<String> = self.kinds.iter().map(|c| format!("{c:?}")).collect();
@@ -247,14 +302,20 @@ impl<M: Machine> Pair<M> {
         self.machine.take(unit);
     }
 
-    /// One call for both; a difference is told in a few lines.
+    /// One call for both; a difference is told in a few lines. A refused call
+    /// is also compared with the box before it, which it must leave as it was.
     pub fn ask(&mut self, ask: Ask) -> Result<u64, String> {
         let (before, sound) = (self.unit.state, self.unit.sound());
         let answer = self.machine.ask(ask);
+        if ask.refused(answer) && !self.machine.same(&self.unit) {
+            let differences = self.machine.differences(&self.unit);
+            return Err(tell(&before, ask, "refused", answer, &differences));
+        }
         let expected = second(&mut self.unit, self.fault, ask);
         if answer != expected || !self.machine.same(&self.unit) {
             let differences = self.machine.differences(&self.unit);
-            return Err(tell(&before, ask, answer, expected, &differences));
+            let what = format!("second program {expected}");
+            return Err(tell(&before, ask, &what, answer, &differences));
         }
         self.counts.add(&before, sound, ask, answer);
         Ok(answer)
@@ -297,9 +358,10 @@ impl<M: Machine> Pair<M> {
     }
 }
 
-/// The call, both answers, the state before, and what differs.
-fn tell(before: &State, ask: Ask, answer: u64, expected: u64, differences: &[String]) -> String {
-    let mut text = format!("{ask:?}: answer {answer}, second program {expected}\n");
+/// The call, its answer and what is to be said of it, the state before, and
+/// the cells that differ.
+fn tell(before: &State, ask: Ask, what: &str, answer: u64, differences: &[String]) -> String {
+    let mut text = format!("{ask:?}: answer {answer}, {what}\n");
     text += &format!("before: {}\n", capi::named(before));
     for difference in differences.iter().take(12) {
         text += &format!("{difference}\n");
@@ -365,6 +427,40 @@ pub fn any_ask(rng: &mut Rng, unit: &Unit) -> Ask {
     }
 }
 
+/// A call that most boxes refuse.
+pub fn bad_ask(rng: &mut Rng, unit: &Unit) -> Ask {
+    let State { m, h, .. } = unit.state;
+    let (r, s, t) = (rng.below(8), rng.below(8), rng.below(8));
+    let wrong = rng.pick(&[8, 9, 255, 256, 65_535]);
+    let kind = 1 + rng.below(10);
+    match rng.below(12) {
+        // Sizes out of range, or other than the lengths.
+        0 => Ask::Open(
+            rng.pick(&[0, 15, 8193, u32::MAX, m.wrapping_add(1), m / 2]),
+            h,
+        ),
+        1 => Ask::Open(
+            m,
+            rng.pick(&[0, 1, 1025, u32::MAX, h.wrapping_add(1), h / 2]),
+        ),
+        // No such register.
+        2 => Ask::Numbers([kind, wrong, s, t]),
+        3 => match rng.below(2) {
+            0 => Ask::Numbers([rng.pick(&[3, 6, 7, 8, 9, 10]), r, wrong, t]),
+            _ => Ask::Numbers([10, r, s, wrong]),
+        },
+        // No such kind, and a field above 65,535.
+        4 => Ask::Numbers([rng.pick(&[0, 11, kind + 256, u32::MAX]), r, s, t]),
+        5 => Ask::Numbers([kind, r + 65_536 * (1 + rng.below(65_535)), s, t]),
+        // More words than memory has.
+        6 => Ask::Numbers([5, r, m.saturating_add(rng.below(3)).min(65_535), t]),
+        // Far outside a tuple, and past the largest offset.
+        7 => Ask::Numbers([rng.pick(&[6, 7]), r, s, 65_535 - rng.below(3)]),
+        8 => Ask::Numbers([4, r, 65_535 - rng.below(3), 0]),
+        _ => any_ask(rng, unit),
+    }
+}
+
 /// Which states: arbitrary ones, columns of uneven lengths, damaged boxes.
 #[derive(Clone, Copy, PartialEq, Eq, Debug)]
 pub enum States {
@@ -373,25 +469,24 @@ pub enum States {
     Damaged,
 }
 
-/// Many states with one call each. `change` may change the machine's side
-/// before the call, in a way that must make no difference.
+/// Many states with one call each. `change` may change a state before both
+/// get it.
 pub fn states<M: Machine>(
     rng: &mut Rng,
     which: States,
     calls: u64,
-    mut change: impl FnMut(&mut Rng, &mut Unit, &mut M),
+    mut change: impl FnMut(&mut Rng, &mut Unit),
 ) -> Result<Counts, String> {
     let mut grower = Grower::new(rng);
     let mut pair: Pair<M> = Pair::new(Unit::lent(16, 4), Fault::None);
     while pair.counts.calls < calls {
-        let unit = match which {
+        let mut before = match which {
             States::Arbitrary => random::arbitrary(rng),
             States::Uneven => random::uneven(rng),
             States::Damaged => random::damaged(rng, &mut grower),
         };
-        pair.take(&unit);
-        change(rng, &mut pair.unit, &mut pair.machine);
-        let before = pair.unit.clone();
+        change(rng, &mut before);
+        pair.take(&before);
         let ask = any_ask(rng, &before);
         let at = pair.counts.calls;
         let answer = pair

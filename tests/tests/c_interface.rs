@@ -1,11 +1,11 @@
-//! The C interface against the second program: the answer, every cell of
-//! every column and the whole state after every call.
+//! The C interface against the second program: the answer and every cell of
+//! all lent parts after every call, refused ones included.
 
 use gloamish_tests::call::*;
-use gloamish_tests::capi::{decode, encode, FLAGS, HALVES, NOT_UNDERSTOOD, STATE};
+use gloamish_tests::capi::{decode, encode, GUARDS, HOLD, NUMBERS, SWITCHES};
 use gloamish_tests::compare::{self, Ask, Counts, Pair, States};
 use gloamish_tests::random::{self, Grower, Rng};
-use gloamish_tests::{Fault, Lent, Unit};
+use gloamish_tests::{Fault, Lent, State, Unit};
 
 /// Lists on boxes, until there were so many calls.
 fn lists(
@@ -70,14 +70,9 @@ fn long_runs() {
 fn states(which: States, seed: u64, calls: u64) -> Counts {
     println!("{which:?} states: seed {seed}");
     let mut rng = Rng::new(seed);
-    let counts = compare::states(&mut rng, which, calls, |rng, unit, lent: &mut Lent| {
+    let counts = compare::states::<Lent>(&mut rng, which, calls, |rng, unit| {
         if rng.below(8) == 0 {
-            let numbers = wild(rng, &encode(&unit.state));
-            unit.state = decode(&numbers);
-            lent.state.take(&numbers);
-        }
-        if rng.below(4) == 0 {
-            disguise(rng, lent.state.cells_mut());
+            unit.state = wild(rng, &unit.state);
         }
     });
     let counts = counts.unwrap_or_else(|what| panic!("{which:?}, seed {seed}: {what}"));
@@ -85,35 +80,30 @@ fn states(which: States, seed: u64, calls: u64) -> Counts {
     counts
 }
 
-/// Any numbers at all in some places of a state.
-fn wild(rng: &mut Rng, state: &[u32; STATE]) -> [u32; STATE] {
-    let mut numbers = *state;
+/// Any numbers at all in some places of a state, but for M and H.
+fn wild(rng: &mut Rng, state: &State) -> State {
+    let mut arrays = encode(state);
     let chance = rng.pick(&[5, 20, 60]);
-    for number in &mut numbers[2..] {
+    let any = |rng: &mut Rng| match rng.below(3) {
+        0 => rng.bits() as u32,
+        _ => random::number(rng, state.m, state.h),
+    };
+    for number in &mut arrays.numbers[2..] {
         if rng.percent(chance) {
-            *number = match rng.below(3) {
-                0 => rng.bits() as u32,
-                _ => random::number(rng, state[0], state[1]),
-            };
+            *number = any(rng);
         }
     }
-    numbers
-}
-
-/// Other numbers for the same state: flags are true unless 0, and 33 to 35
-/// count modulo 65,536.
-fn disguise(rng: &mut Rng, state: &mut [u32]) {
-    for at in FLAGS {
-        if state[at] != 0 && rng.percent(50) {
-            state[at] = rng.pick(&[2, 3, 255, 256, 65_536, 1 << 31, u32::MAX]);
+    for switch in &mut arrays.switches {
+        if rng.percent(chance) {
+            *switch = rng.percent(50);
         }
     }
-    for at in HALVES {
-        if rng.percent(50) {
-            let high = rng.pick(&[1, 2, 255, 256, 32_768, 65_535]);
-            state[at] = state[at] % 65_536 + high * 65_536;
+    for half in &mut arrays.hold {
+        if rng.percent(chance) {
+            *half = any(rng) as u16;
         }
     }
+    decode(&arrays)
 }
 
 #[test]
@@ -133,91 +123,130 @@ fn uneven_columns() {
     assert!(counts.answers[9] > 100_000 && counts.answers[10] > 1000);
 }
 
-/// A call by its numbers, for input that no request has.
-#[derive(Clone, Copy, Debug)]
-enum Raw {
-    Open(u32, u32),
-    Request([u32; 4]),
-    Step,
-    Run(u32),
+/// Boxes of every sort: grown, damaged and arbitrary ones, and columns of
+/// uneven lengths.
+struct Boxes {
+    grower: Grower,
+    at: u32,
 }
 
-fn send(lent: &mut Lent, raw: Raw) -> u64 {
-    match raw {
-        Raw::Open(m, h) => lent.open(m, h).into(),
-        Raw::Request(numbers) => lent.request(numbers).into(),
-        Raw::Step => lent.step().into(),
-        Raw::Run(budget) => lent.run(budget),
+impl Boxes {
+    fn new(rng: &mut Rng) -> Boxes {
+        let grower = Grower::new(rng);
+        Boxes { grower, at: 0 }
     }
-}
 
-/// The call isn't understood and changes nothing at all.
-#[track_caller]
-fn not_understood(lent: &Lent, raw: Raw) {
-    let mut after = lent.clone();
-    let answer = send(&mut after, raw);
-    assert_eq!(answer, u64::from(NOT_UNDERSTOOD), "{raw:?}");
-    let changed = after.differences(lent);
-    assert!(changed.is_empty(), "{raw:?} changed {changed:?}");
-}
-
-/// Boxes for bad input: grown, damaged and arbitrary ones, their states also
-/// in other numbers.
-fn boxes(seed: u64, count: u32) -> Vec<Lent> {
-    println!("boxes: seed {seed}");
-    let mut rng = Rng::new(seed);
-    let mut grower = Grower::new(&mut rng);
-    let mut boxes = Vec::new();
-    for at in 0..count {
-        let unit = match at % 3 {
-            0 => grower.grow(&mut rng).clone(),
-            1 => random::damaged(&mut rng, &mut grower),
-            _ => random::arbitrary(&mut rng),
-        };
-        let mut lent = Lent::of(&unit);
-        disguise(&mut rng, lent.state.cells_mut());
-        boxes.push(lent);
-    }
-    boxes
-}
-
-#[test]
-fn a_state_of_another_length() {
-    let raws = [
-        Raw::Open(16, 4),
-        Raw::Open(0, 0),
-        Raw::Step,
-        Raw::Run(0),
-        Raw::Run(10),
-        Raw::Run(u32::MAX),
-        Raw::Request([1, 0, 5, 0]),
-        Raw::Request([5, 0, 1, 7]),
-        Raw::Request([2, 8, 0, 0]),
-    ];
-    for lent in boxes(310, 60) {
-        let mut cells = lent.state.cells().to_vec();
-        cells.resize(100, 1);
-        for length in (0..100).filter(|length| *length != STATE) {
-            let mut other = lent.clone();
-            other.state.take(&cells[..length]);
-            for raw in raws {
-                not_understood(&other, raw);
-            }
+    fn next(&mut self, rng: &mut Rng) -> Unit {
+        self.at += 1;
+        match self.at % 4 {
+            0 => random::uneven(rng),
+            1 => self.grower.grow(rng).clone(),
+            2 => random::damaged(rng, &mut self.grower),
+            _ => random::arbitrary(rng),
         }
+    }
+}
+
+/// Calls that are refused nearly always, on boxes of every sort, until a
+/// million of them were. All lent parts are compared with the second program
+/// and with what they were before.
+#[test]
+fn a_million_refused_calls() {
+    let seed = 309;
+    println!("refused calls: seed {seed}");
+    let mut rng = Rng::new(seed);
+    let mut boxes = Boxes::new(&mut rng);
+    let mut pair: Pair<Lent> = Pair::new(Unit::lent(16, 2), Fault::None);
+    // Openings, requests, steps and runs.
+    let mut refused = [0; 4];
+    while pair.counts.refused < 1_000_000 {
+        let unit = boxes.next(&mut rng);
+        pair.take(&unit);
+        for _ in 0..8 {
+            let ask = compare::bad_ask(&mut rng, &pair.unit);
+            let at = pair.counts.calls;
+            let answer = pair.ask(ask);
+            let answer =
+                answer.unwrap_or_else(|what| panic!("seed {seed}, call {at}: {what}{unit:?}"));
+            let call = match ask {
+                Ask::Open(..) => 0,
+                Ask::Request(_) | Ask::Numbers(_) => 1,
+                Ask::Step => 2,
+                Ask::Run(_) => 3,
+            };
+            refused[call] += u64::from(ask.refused(answer));
+        }
+    }
+    let counts = &pair.counts;
+    counts.print("refused calls");
+    println!("refused calls: openings, requests, steps and runs {refused:?}");
+    assert!(counts.refused >= 1_000_000);
+    assert_eq!(counts.refused, refused.iter().sum());
+    assert!(refused.iter().all(|count| *count > 10_000));
+    for answer in (1..=6).chain([9, 10]) {
+        assert!(counts.answers[answer] > 1000, "answer {answer}");
+    }
+    assert!(counts.not_understood > 100_000);
+}
+
+/// Requests by their numbers, each on a box as it is.
+struct Numbered {
+    pair: Pair<Lent>,
+    boxes: Boxes,
+    unit: Unit,
+    rng: Rng,
+}
+
+impl Numbered {
+    fn new(seed: u64) -> Numbered {
+        println!("requests by numbers: seed {seed}");
+        let mut rng = Rng::new(seed);
+        let boxes = Boxes::new(&mut rng);
+        let unit = Unit::lent(16, 2);
+        let pair = Pair::new(unit.clone(), Fault::None);
+        Numbered {
+            pair,
+            boxes,
+            unit,
+            rng,
+        }
+    }
+
+    fn next_box(&mut self) {
+        self.unit = self.boxes.next(&mut self.rng);
+    }
+
+    #[track_caller]
+    fn ask(&mut self, numbers: [u32; 4]) -> u32 {
+        self.pair.take(&self.unit);
+        let answer = self.pair.ask(Ask::Numbers(numbers));
+        answer.unwrap_or_else(|what| panic!("{what}{:?}", self.unit)) as u32
+    }
+
+    /// The numbers ask for nothing; `ask` sees that nothing is changed.
+    #[track_caller]
+    fn not_understood(&mut self, numbers: [u32; 4]) {
+        assert_eq!(self.ask(numbers), u32::MAX, "{numbers:?}");
+    }
+
+    fn print(&self, name: &str) {
+        self.pair.counts.print(name);
     }
 }
 
 #[test]
 fn an_unknown_kind() {
-    let mut rng = Rng::new(311);
+    let mut numbered = Numbered::new(311);
     let mut kinds = vec![0, 11, 12, 13, 16, 255, 256, u32::MAX, u32::MAX - 9];
     kinds.extend((1..=10).flat_map(|kind| [kind + 256, kind + 65_536, kind + (1 << 31)]));
-    for lent in boxes(312, 300) {
+    for _ in 0..300 {
+        numbered.next_box();
         for &kind in &kinds {
-            let fields = [rng.below(8), rng.below(8), rng.below(8)];
-            not_understood(&lent, Raw::Request([kind, fields[0], fields[1], fields[2]]));
+            let [a, b, c] = [0; 3].map(|_| numbered.rng.below(8));
+            numbered.not_understood([kind, a, b, c]);
         }
     }
+    numbered.print("an unknown kind");
 }
 
 /// Which of a, b and c are 16-bit fields of a kind.
@@ -231,27 +260,32 @@ fn halves(kind: u32) -> &'static [usize] {
 
 #[test]
 fn a_field_above_16_bits() {
-    let mut rng = Rng::new(313);
-    for lent in boxes(314, 300) {
+    let mut numbered = Numbered::new(313);
+    for _ in 0..300 {
+        numbered.next_box();
         for kind in 1..=10 {
             for &at in halves(kind) {
                 for high in [1, 2, 32_768, 65_535] {
+                    let rng = &mut numbered.rng;
                     let mut numbers = [kind, rng.below(9), rng.below(9), rng.below(9)];
                     numbers[at] = high * 65_536 + rng.pick(&[0, 1, 7, 65_535]);
-                    not_understood(&lent, Raw::Request(numbers));
+                    numbered.not_understood(numbers);
                 }
             }
         }
     }
+    numbered.print("a field above 16 bits");
 }
 
 /// What stands in a field that the kind doesn't have makes no difference, and
 /// the value of SETD has 32 bits.
 #[test]
 fn a_field_that_the_kind_lacks() {
-    let mut rng = Rng::new(315);
-    for lent in boxes(316, 300) {
+    let mut numbered = Numbered::new(315);
+    for _ in 0..300 {
+        numbered.next_box();
         for kind in [1, 2, 3, 4, 8, 9] {
+            let rng = &mut numbered.rng;
             let value = rng.bits() as u32;
             let numbers = match kind {
                 1 => [1, rng.below(8), value, 0],
@@ -263,70 +297,29 @@ fn a_field_that_the_kind_lacks() {
             if kind == 2 {
                 others[2] = rng.pick(&[1, 65_536, u32::MAX]);
             }
-            let (mut one, mut other) = (lent.clone(), lent.clone());
-            let answer = one.request(numbers);
-            assert_ne!(answer, NOT_UNDERSTOOD);
-            assert_eq!(other.request(others), answer, "{others:?}");
-            assert!(one.differences(&other).is_empty());
+            let answer = numbered.ask(numbers);
+            assert_ne!(answer, u32::MAX);
+            let lent = numbered.pair.machine.clone();
+            assert_eq!(numbered.ask(others), answer, "{others:?}");
+            assert!(numbered.pair.machine.differences(&lent).is_empty());
             if kind == 1 && answer == DONE {
-                assert_eq!(one.state.cells()[2 + numbers[1] as usize], value);
+                let r = numbers[1] as usize;
+                assert_eq!(lent.numbers.cells()[14 + r], value);
             }
         }
     }
+    numbered.print("a field that the kind lacks");
 }
 
-/// Each flag in other numbers, and 33 to 35 above 65,535, come back as 1 and
-/// as the remainder, also from a refused call.
+/// A state in its arrays and back.
 #[test]
-fn other_numbers_for_the_same_state() {
-    let asks = [
-        Ask::Open(15, 4),
-        Ask::Step,
-        Ask::Run(0),
-        Ask::Run(20),
-        Ask::Request(Request::Nil { r: 8 }),
-        Ask::Request(Request::Same { r: 0, s: 1, t: 2 }),
-        Ask::Request(Request::Store { r: 0, s: 1, k: 0 }),
-    ];
-    let mut rng = Rng::new(317);
-    let mut grower = Grower::new(&mut rng);
-    let mut refused = 0;
-    for _ in 0..200 {
-        let unit = random::damaged(&mut rng, &mut grower);
-        for ask in asks {
-            for at in FLAGS.into_iter().chain(HALVES) {
-                for number in [2, 256, 65_535, 65_536, 65_543, 1 << 31, u32::MAX] {
-                    let mut state = encode(&unit.state);
-                    state[at] = number;
-                    let mut pair: Pair<Lent> = Pair::new(unit.clone(), Fault::None);
-                    pair.unit.state = decode(&state);
-                    pair.machine.state.take(&state);
-                    let answer = pair.ask(ask).unwrap_or_else(|what| panic!("{what}"));
-                    let refusals = [1, 2, 3, 6, 9, 10];
-                    if refusals.contains(&answer) {
-                        refused += 1;
-                        let back = pair.machine.state.cells()[at];
-                        let half = HALVES.contains(&at);
-                        assert_eq!(back, if half { number % 65_536 } else { 1 });
-                    }
-                }
-            }
-        }
-    }
-    println!("other numbers: {refused} refused calls");
-    assert!(refused > 10_000);
-}
-
-/// A state in numbers and back.
-#[test]
-fn numbers_and_back() {
+fn arrays_and_back() {
     let mut rng = Rng::new(318);
     for _ in 0..10_000 {
         let state = random::arbitrary(&mut rng).state;
-        let mut numbers = encode(&state);
-        assert_eq!(decode(&numbers), state);
-        disguise(&mut rng, &mut numbers);
-        assert_eq!(decode(&numbers), state);
+        assert_eq!(decode(&encode(&state)), state);
+        let state = wild(&mut rng, &state);
+        assert_eq!(decode(&encode(&state)), state);
     }
 }
 
@@ -379,8 +372,10 @@ fn planted_numbers_are_noticed() {
             check(&other);)*
         };
     }
-    plant!(state, words, flags, addresses, sizes, links, marks, deeps);
+    plant!(numbers, switches, hold, words, flags, addresses, sizes, links, marks, deeps);
     println!("planted numbers: {noticed} noticed");
     let (m, h) = (unit.words.len(), unit.links.len());
-    assert_eq!(noticed, STATE + 2 * m + 5 * h + 8 * 17);
+    let cells = NUMBERS + SWITCHES + HOLD + 2 * m + 5 * h;
+    // Around each of the ten parts, and each of them shorter.
+    assert_eq!(noticed, cells + 10 * (2 * GUARDS + 1));
 }

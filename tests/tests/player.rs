@@ -7,7 +7,7 @@ use gloamish_tests::{Fault, Player, Unit};
 fn states(which: States, seed: u64, calls: u64) -> Counts {
     println!("player, {which:?}: seed {seed}");
     let mut rng = Rng::new(seed);
-    let counts = compare::states::<Player>(&mut rng, which, calls, |_, _, _| {});
+    let counts = compare::states::<Player>(&mut rng, which, calls, |_, _| {});
     counts.unwrap_or_else(|what| panic!("{which:?}, seed {seed}: {what}"))
 }
 

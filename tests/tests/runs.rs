@@ -1,5 +1,5 @@
 //! Runs of every kind through the C interface against the second program: the
-//! answer, the number of steps, every cell of every column and the whole state.
+//! answer, the number of steps and every cell of all lent parts.
 
 use gloamish_tests::call::*;
 use gloamish_tests::compare::{run_column, Ask, Pair, RUN_ANSWERS};
@@ -70,10 +70,12 @@ fn budget(rng: &mut Rng, unit: &Unit, limit: u32) -> (Budget, u32) {
 /// The box and the library's, with how many runs gave each answer.
 struct Runs {
     pair: Pair<Lent>,
+    /// Does some of the runs again, by single steps.
+    by_steps: Pair<Lent>,
     /// By the kind of budget: 0, 8, 9 and 11.
     kinds: [[u64; 4]; BUDGETS.len()],
     steps: u64,
-    /// Runs done again by single steps of the library.
+    /// Runs done again.
     again: u64,
 }
 
@@ -82,6 +84,7 @@ impl Runs {
         println!("{name}: seed {seed}");
         Runs {
             pair: Pair::new(Unit::lent(16, 2), Fault::None),
+            by_steps: Pair::new(Unit::lent(16, 2), Fault::None),
             kinds: [[0; 4]; BUDGETS.len()],
             steps: 0,
             again: 0,
@@ -92,7 +95,7 @@ impl Runs {
     fn run(&mut self, rng: &mut Rng, limit: u32) -> Result<(), String> {
         let (kind, budget) = budget(rng, &self.pair.unit, limit);
         let sound = self.pair.unit.sound();
-        let mut copy = rng.percent(10).then(|| self.pair.machine.clone());
+        let copy = rng.percent(10).then(|| self.pair.unit.clone());
         let gave = self.pair.ask(Ask::Run(budget))?;
         let (steps, answer) = (gave / 256, (gave % 256) as u32);
         self.steps += steps;
@@ -106,20 +109,24 @@ impl Runs {
         if spent != (answer == SPENT) || spent && steps != u64::from(budget) {
             return Err(format!("{kind:?} {budget}: {answer} after {steps}"));
         }
-        if let Some(copy) = &mut copy {
+        if let Some(copy) = copy {
             self.again += 1;
-            let answers: Vec<u32> = (0..steps).map(|_| copy.step()).collect();
-            if *copy != self.pair.machine {
-                let told = copy.differences(&self.pair.machine);
+            self.by_steps.take(&copy);
+            let mut last = GOING;
+            for _ in 0..steps {
+                last = self.by_steps.ask(Ask::Step)? as u32;
+            }
+            if self.by_steps.machine != self.pair.machine {
+                let told = self.by_steps.machine.differences(&self.pair.machine);
                 return Err(format!("{kind:?} {budget}: by steps {told:?}"));
             }
-            let stopped = match answers.last() {
-                Some(&ENDED | &GRANTED) => DONE,
-                Some(&FAILED) => FAILED,
+            let stopped = match last {
+                ENDED | GRANTED => DONE,
+                FAILED => FAILED,
                 _ => answer,
             };
             if stopped != answer {
-                return Err(format!("{kind:?} {budget}: {answer}, steps {answers:?}"));
+                return Err(format!("{kind:?} {budget}: {answer}, last step {last}"));
             }
         }
         Ok(())
@@ -128,8 +135,8 @@ impl Runs {
     fn print(&self, name: &str) {
         self.pair.counts.print(name);
         println!(
-            "{name}: {} steps in runs, {} runs done again by steps",
-            self.steps, self.again
+            "{name}: {} steps in runs, {} runs done again by {} steps compared",
+            self.steps, self.again, self.by_steps.counts.calls
         );
         for kind in BUDGETS {
             let counts = self.kinds[kind as usize];

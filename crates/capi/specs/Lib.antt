@@ -1,4 +1,2 @@
-pub mod Wire
-pub mod Parts
 pub mod Calls
 pub mod Asked

@@ -1,12 +1,13 @@
 // A box with its own buffers, 16 words and 4 entries, that goes through a case by value.
 use crate::show::number;
-use memory::State;
 use rules::Request;
 
 // The box, and what the last call answered.
 pub struct Bench {
-    pub state: State,
     pub answer: u32,
+    pub numbers: [u32; 22],
+    pub switches: [bool; 11],
+    pub hold: [u16; 3],
     pub words: [u32; 16],
     pub flags: [bool; 16],
     pub addresses: [u32; 4],
@@ -22,37 +23,12 @@ struct Ran {
     steps: u32,
 }
 
-// A state before any opening.
-fn no_state() -> State {
-    State {
-        m: 0,
-        h: 0,
-        registers: [0; 8],
-        flags: [false; 8],
-        top: 0,
-        free: 0,
-        phase: 0,
-        live: 0,
-        current: 0,
-        next: 0,
-        src: 0,
-        dest: 0,
-        tuple: 0,
-        size: 0,
-        index: 0,
-        copy: 0,
-        copy_flag: false,
-        held: false,
-        begun: false,
-        hold_register: 0,
-        hold_size: 0,
-        hold_tag: 0,
-    }
-}
-
 impl Bench {
     // The box opened 16, 4.
     pub(crate) fn opened() -> Bench {
+        let mut numbers = [0u32; 22];
+        let mut switches = [false; 11];
+        let mut hold = [0u16; 3];
         let mut words = [0u32; 16];
         let mut flags = [false; 16];
         let mut addresses = [0u32; 4];
@@ -60,10 +36,12 @@ impl Bench {
         let mut links = [0u32; 4];
         let mut marks = [false; 4];
         let mut deeps = [false; 4];
-        let done = memory::open(
+        let answer = memory::open(
             16,
             4,
-            no_state(),
+            &mut numbers,
+            &mut switches,
+            &mut hold,
             &mut words,
             &mut flags,
             &mut addresses,
@@ -72,10 +50,11 @@ impl Bench {
             &mut marks,
             &mut deeps,
         );
-        let state = done.state;
         Bench {
-            state,
-            answer: done.answer,
+            answer,
+            numbers,
+            switches,
+            hold,
             words,
             flags,
             addresses,
@@ -88,6 +67,9 @@ impl Bench {
 
     // The box after a request.
     fn asked(self, q: Request) -> Bench {
+        let mut numbers = self.numbers;
+        let mut switches = self.switches;
+        let mut hold = self.hold;
         let mut words = self.words;
         let mut flags = self.flags;
         let mut addresses = self.addresses;
@@ -95,10 +77,11 @@ impl Bench {
         let mut links = self.links;
         let mut marks = self.marks;
         let mut deeps = self.deeps;
-        let before = self.state;
-        let done = memory::request(
+        let answer = memory::request(
             q,
-            before,
+            &mut numbers,
+            &mut switches,
+            &mut hold,
             &mut words,
             &mut flags,
             &mut addresses,
@@ -107,10 +90,11 @@ impl Bench {
             &mut marks,
             &mut deeps,
         );
-        let state = done.state;
         Bench {
-            state,
-            answer: done.answer,
+            answer,
+            numbers,
+            switches,
+            hold,
             words,
             flags,
             addresses,
@@ -123,6 +107,9 @@ impl Bench {
 
     // The box after one step of the collector.
     fn stepped(self) -> Bench {
+        let mut numbers = self.numbers;
+        let mut switches = self.switches;
+        let hold = self.hold;
         let mut words = self.words;
         let mut flags = self.flags;
         let mut addresses = self.addresses;
@@ -130,9 +117,10 @@ impl Bench {
         let mut links = self.links;
         let mut marks = self.marks;
         let mut deeps = self.deeps;
-        let before = self.state;
-        let done = memory::step(
-            before,
+        let answer = memory::step(
+            &mut numbers,
+            &mut switches,
+            &hold,
             &mut words,
             &mut flags,
             &mut addresses,
@@ -141,10 +129,11 @@ impl Bench {
             &mut marks,
             &mut deeps,
         );
-        let state = done.state;
         Bench {
-            state,
-            answer: done.answer,
+            answer,
+            numbers,
+            switches,
+            hold,
             words,
             flags,
             addresses,
@@ -157,6 +146,9 @@ impl Bench {
 
     // A run with a budget of steps; writes how many it did and its answer.
     pub(crate) fn budget(self, most: u32) -> Bench {
+        let mut numbers = self.numbers;
+        let mut switches = self.switches;
+        let hold = self.hold;
         let mut words = self.words;
         let mut flags = self.flags;
         let mut addresses = self.addresses;
@@ -164,10 +156,11 @@ impl Bench {
         let mut links = self.links;
         let mut marks = self.marks;
         let mut deeps = self.deeps;
-        let before = self.state;
         let done = memory::run(
             most,
-            before,
+            &mut numbers,
+            &mut switches,
+            &hold,
             &mut words,
             &mut flags,
             &mut addresses,
@@ -179,10 +172,11 @@ impl Bench {
         io::write_all(1, b" steps");
         number(done.steps);
         number(done.answer);
-        let state = done.state;
         Bench {
-            state,
             answer: done.answer,
+            numbers,
+            switches,
+            hold,
             words,
             flags,
             addresses,

@@ -58,7 +58,7 @@ impl Bench {
     // The first word that no tuple takes.
     pub(crate) fn top(self) -> Bench {
         io::write_all(1, b", top");
-        number(self.state.top);
+        number(self.numbers[2]);
         self
     }
 
@@ -66,7 +66,7 @@ impl Bench {
     pub(crate) fn free(self) -> Bench {
         let links = self.links;
         io::write_all(1, b", free");
-        free_list(self.state.free, links);
+        free_list(self.numbers[3], links);
         self
     }
 
@@ -97,11 +97,10 @@ impl Bench {
     // The word in a register below 8.
     pub(crate) fn register(self, r: u32) -> Bench {
         let i = wide(r);
-        let s = self.state;
         if i < 8 {
             io::write_all(1, b", register");
             number(r);
-            word(s.registers[i], s.flags[i]);
+            word(self.numbers[i + 14], self.switches[i]);
         }
         self
     }
@@ -109,10 +108,9 @@ impl Bench {
     // The handle in a register below 8.
     pub(crate) fn handle(self, r: u32) -> Bench {
         let i = wide(r);
-        let s = self.state;
         if i < 8 {
             io::write_all(1, b", handle");
-            number(s.registers[i] / 65536);
+            number(self.numbers[i + 14] / 65536);
         }
         self
     }

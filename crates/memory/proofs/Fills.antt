@@ -10,12 +10,11 @@ use lib.ListN.{length, getD, set, replicate, length-replicate, getD-replicate}
 use lib.Seq.{ext-getD, getD-set-same, getD-set-other}
 use borrow.Author.Count.{below-more}
 use borrow.Author.Tests.{le-leb, lt-leb, lt-ltb, le-ltb}
-use Rattle.memory.specs.declared.state.State.{State}
-use Rattle.rules.specs.Parts.{Box, with-memory, with-directory}
+use Rattle.rules.specs.Parts.{Box}
+use Rattle.lent.specs.Lent.{state-of, registers-of, lent, opened-numbers, opened-switches, opened-hold}
 use Rattle.rules.specs.Box.{reply, right-sizes}
-use Rattle.memory.specs.Boxed.{boxed}
 use Rattle.rules.specs.Open.{opened-link, opened-links, opened, opening}
-use Rattle.memory.proofs.Sizes.{Lengths}
+use Rattle.rules.proofs.Sizes.{Lengths}
 
 -- ---- a store more
 
@@ -72,8 +71,8 @@ module _ (m h : ℕ) (b : Box) (y : Bool) (e : y ≡ right-sizes m h b) where
   unfolding opening
   open-done x f d = ap (λ (z : Box). reply z 0) d ∙ simp (← e, f)
 
--- each column as the loops leave it, from columns of the lengths m and h
-pub opened-whole : (m h : ℕ) (b : Box) → Lengths m h b → (ws : List ℕ) (fs : List Bool) (ads ss ls : List ℕ) (ms ds : List Bool) (s : State) → ws ≡ replicate (length (b .memory .words)) 0 → fs ≡ replicate (length (b .memory .flags)) false → ads ≡ replicate (length (b .directory .addresses)) 0 → ss ≡ replicate (length (b .directory .sizes)) 0 → ls ≡ opened-links (length (b .directory .links)) 0 (length (b .directory .links)) → ms ≡ replicate (length (b .directory .marks)) false → ds ≡ replicate (length (b .directory .deeps)) false → boxed ws fs ads ss ls ms ds s ≡ with-memory (record { words = ws; flags = fs }) (with-directory (record { addresses = ads; sizes = ss; links = ls; marks = ms; deeps = ds }) (opened m h)) → boxed ws fs ads ss ls ms ds s ≡ opened m h
-unfolding opened
-opened-whole m h b l ws fs ads ss ls ms ds s p1 p2 p3 p4 p5 p6 p7 p8 =
-    p8 ∙ rw (p1, p2, p3, p4, p5, p6, p7, l .words, l .flags, l .addresses, l .sizes, l .links, l .marks, l .deeps)
+-- each column as the loops leave it, from columns of the lengths m and h, and the arrays of a new box
+pub opened-whole : (m h : ℕ) (b : Box) → Lengths m h b → (ns : List ℕ) (sw : List Bool) (hd : List ℕ) (ws : List ℕ) (fs : List Bool) (ads ss ls : List ℕ) (ms ds : List Bool) → ns ≡ opened-numbers m h → sw ≡ opened-switches → hd ≡ opened-hold → ws ≡ replicate (length (b .memory .words)) 0 → fs ≡ replicate (length (b .memory .flags)) false → ads ≡ replicate (length (b .directory .addresses)) 0 → ss ≡ replicate (length (b .directory .sizes)) 0 → ls ≡ opened-links (length (b .directory .links)) 0 (length (b .directory .links)) → ms ≡ replicate (length (b .directory .marks)) false → ds ≡ replicate (length (b .directory .deeps)) false → lent ns sw hd ws fs ads ss ls ms ds ≡ opened m h
+unfolding opened state-of registers-of
+opened-whole m h b l ns sw hd ws fs ads ss ls ms ds q1 q2 q3 p1 p2 p3 p4 p5 p6 p7 =
+    rw (q1, q2, q3, p1, p2, p3, p4, p5, p6, p7, l .words, l .flags, l .addresses, l .sizes, l .links, l .marks, l .deeps)

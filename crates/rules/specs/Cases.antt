@@ -13,7 +13,7 @@ use Rattle.rules.specs.Limits.{in-range}
 use Rattle.rules.specs.Parts.{Word, Box}
 use Rattle.rules.specs.Box.{Reply, data-word, pointer, word-at, register, address, link, is-entry, lengths-are, right-sizes, sound}
 use Rattle.rules.specs.Place.{being-moved, place, in-memory, read, write, can-shade, list-next, mark-live, shade}
-use Rattle.rules.specs.Request.{no-room, collecting, can-make, new-entry, take-room, new-tuple, hold, at-tuple, word-number, at-word, advance, getm, load, shades, shaded-first, deepened, store-word, store, size, tag-at, tag, same-word, same, registers-right, carry-out, request}
+use Rattle.rules.specs.Request.{no-room, collecting, can-make, new-entry, take-room, new-tuple, put-on-hold, at-tuple, word-number, at-word, advance, getm, load, shades, shaded-first, deepened, store-word, store, size, tag-at, tag, same-word, same, registers-right, carry-out, request}
 use Rattle.rules.specs.Collector.{at-rest, unheld, granted, try-held, settle, end-cycle, note-begun, rest, scan, look-register, look-from, begin-sweep, end-marking, mark-root, scan-next, mark-next, scan-word, scan-current, mark-scan, mark-add, go-on, keep-in-place, start-move, free-tuple, start-zero, release, sweep-tuple, sweep-scan, leave-tuple, settle-move, finish-move, copy-word, sweep-read, sweep-clear, write-copy, sweep-write, zero-word, sweep-zero, rule-of, step}
 use Rattle.rules.specs.Open.{opened-link, opened-links, opened}
 
@@ -146,5 +146,5 @@ all-hold (c ∷ cs) = holds c && all-hold cs
 
 -- all twelve
 pub every-case : all-hold table ≡ true
-unfolding in-range is-entry lengths-are right-sizes sound being-moved place in-memory read write can-shade list-next mark-live shade no-room collecting can-make new-entry take-room new-tuple hold at-tuple word-number at-word advance getm load shades shaded-first deepened store-word store size tag-at tag same-word same registers-right carry-out request at-rest unheld granted try-held settle end-cycle note-begun rest scan look-register look-from begin-sweep end-marking mark-root scan-next mark-next scan-word scan-current mark-scan mark-add go-on keep-in-place start-move free-tuple start-zero release sweep-tuple sweep-scan leave-tuple settle-move finish-move copy-word sweep-read sweep-clear write-copy sweep-write zero-word sweep-zero rule-of step opened-link opened-links opened
+unfolding in-range is-entry lengths-are right-sizes sound being-moved place in-memory read write can-shade list-next mark-live shade no-room collecting can-make new-entry take-room new-tuple put-on-hold at-tuple word-number at-word advance getm load shades shaded-first deepened store-word store size tag-at tag same-word same registers-right carry-out request at-rest unheld granted try-held settle end-cycle note-begun rest scan look-register look-from begin-sweep end-marking mark-root scan-next mark-next scan-word scan-current mark-scan mark-add go-on keep-in-place start-move free-tuple start-zero release sweep-tuple sweep-scan leave-tuple settle-move finish-move copy-word sweep-read sweep-clear write-copy sweep-write zero-word sweep-zero rule-of step opened-link opened-links opened
 every-case = refl

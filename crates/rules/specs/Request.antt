@@ -41,8 +41,8 @@ new-tuple r n tag b =
     (take-room n (put (b .top) (control-word (b .free) tag) (new-entry (b .free) n b)))
 
 -- put on hold: no cycle has begun under it yet
-unfoldable pub hold : ℕ → ℕ → ℕ → Box → Box
-hold r n tag b =
+unfoldable pub put-on-hold : ℕ → ℕ → ℕ → Box → Box
+put-on-hold r n tag b =
     with-held true
     (with-begun false (with-hold-register r (with-hold-size n (with-hold-tag tag b))))
 
@@ -84,7 +84,7 @@ advance r n b =
 unfoldable pub getm : ℕ → ℕ → ℕ → Box → Reply
 getm r n tag b =
     cond (leb (n + 1) (b .m))
-    (cond (no-room n b) (reply (hold r n tag b) 7) (cond (can-make n b) (done (new-tuple r n tag b)) (reply b 9)))
+    (cond (no-room n b) (reply (put-on-hold r n tag b) 7) (cond (can-make n b) (done (new-tuple r n tag b)) (reply b 9)))
     (reply b 5)
 
 unfoldable pub load : ℕ → ℕ → ℕ → Box → Reply

@@ -6,9 +6,8 @@
 //! Each load is a recorded list of calls. Both play it from an opening, by
 //! turns, several times. A list is timed in short parts, and of each part the
 //! least time counts, so that other work on the machine disturbs little.
-//! Answers and final boxes must be the same. At every call the C interface
-//! also decodes and encodes the state's 36 numbers, which the player keeps in
-//! a struct.
+//! Answers and final boxes must be the same. The C interface gets the state as
+//! three lent arrays; the player keeps it in a struct.
 
 use std::process::ExitCode;
 use std::time::{Duration, Instant};

@@ -14,7 +14,7 @@ use Rattle.rules.specs.Limits.{half-word, register-count}
 use Rattle.rules.specs.Parts.{Word, Box}
 use Rattle.rules.specs.Box.{data-word, pointer, handle-of, offset-of, names-tuple, register, put-register, size-of, deep}
 use Rattle.rules.specs.Place.{Place, copy-place, at, being-moved, place, read}
-use Rattle.rules.specs.Request.{hold}
+use Rattle.rules.specs.Request.{put-on-hold}
 use Rattle.rules.specs.Collector.{unheld}
 use Rattle.history.specs.Calls.{In16}
 use Rattle.history.proofs.Invariant.Statement.{Plan, Ghosts, Inv, word, Kept, Shape, Contents}
@@ -152,34 +152,34 @@ register-loads b g v r h n l k u = register-takes b g v r (word h (n + 1) b) l (
 
 -- ---- the hold
 
-hold-read : (r n t : ℕ) (b : Box) (p : Place) → read p (hold r n t b) ≡ read p b
-unfolding read hold
+hold-read : (r n t : ℕ) (b : Box) (p : Place) → read p (put-on-hold r n t b) ≡ read p b
+unfolding read put-on-hold
 hold-read r n t b copy-place = refl
 hold-read r n t b (at a) = refl
 
-hold-word : (r n t : ℕ) (b : Box) (h i : ℕ) → word h i (hold r n t b) ≡ word h i b
-unfolding word place being-moved hold
+hold-word : (r n t : ℕ) (b : Box) (h i : ℕ) → word h i (put-on-hold r n t b) ≡ word h i b
+unfolding word place being-moved put-on-hold
 hold-word r n t b h i = hold-read r n t b (place h i b)
 
-hold-steady : (r n t : ℕ) (b : Box) → Steady b (hold r n t b)
-unfolding hold
+hold-steady : (r n t : ℕ) (b : Box) → Steady b (put-on-hold r n t b)
+unfolding put-on-hold
 hold-steady r n t b = search
 
 -- nothing of the tuples or the registers changes
-pub hold-quiet : (r n t : ℕ) (b : Box) (p : Plan) → Quiet b p (hold r n t b) p
-unfolding hold
+pub hold-quiet : (r n t : ℕ) (b : Box) (p : Plan) → Quiet b p (put-on-hold r n t b) p
+unfolding put-on-hold
 hold-quiet r n t b p =
     record {
-      kept-to = steady-kept-to b (hold r n t b) p (hold-steady r n t b);
-      kept-from = steady-kept-from b (hold r n t b) p (hold-steady r n t b);
+      kept-to = steady-kept-to b (put-on-hold r n t b) p (hold-steady r n t b);
+      kept-from = steady-kept-from b (put-on-hold r n t b) p (hold-steady r n t b);
       roots-same = λ s. refl;
       sizes-same = λ h k. refl;
       words-same = λ h k i l. hold-word r n t b h i;
       deeps-same = λ h k. refl;
     }
 
-hold-shape : (r n t : ℕ) (b : Box) → r < register-count → In16 t → Shape b → Shape (hold r n t b)
-unfolding hold
+hold-shape : (r n t : ℕ) (b : Box) → r < register-count → In16 t → Shape b → Shape (put-on-hold r n t b)
+unfolding put-on-hold
 hold-shape r n t b l y s =
     record {
       range = s .range;
@@ -195,15 +195,15 @@ hold-shape r n t b l y s =
       held-register = λ e. (l, y);
     }
 
-pub invariant-hold : (b : Box) (g : Ghosts) → Inv b g → (r n t : ℕ) → r < register-count → In16 t → Inv (hold r n t b) g
-unfolding hold
+pub invariant-hold : (b : Box) (g : Ghosts) → Inv b g → (r n t : ℕ) → r < register-count → In16 t → Inv (put-on-hold r n t b) g
+unfolding put-on-hold
 invariant-hold b g v r n t l y =
-    steady-inv b (hold r n t b) g (hold-steady r n t b)
+    steady-inv b (put-on-hold r n t b) g (hold-steady r n t b)
     (record { controls-same = λ h x. hold-word r n t b h 0; words-safe = λ h x i u. inl (hold-word r n t b h (i + 1)); deeps-stay = λ h e. e })
     (hold-shape r n t b l y (v .shape))
-    (layout-same b (hold r n t b) (g .plan) (λ h. refl) (λ h. refl) (λ a. refl) refl refl (v .layout))
-    (quiet-contents b (g .plan) (hold r n t b) (g .plan) (hold-quiet r n t b (g .plan)) (v .contents))
-    (zero-same b (hold r n t b) (g .zeroed) (λ a. refl) refl refl (v .zero-words))
+    (layout-same b (put-on-hold r n t b) (g .plan) (λ h. refl) (λ h. refl) (λ a. refl) refl refl (v .layout))
+    (quiet-contents b (g .plan) (put-on-hold r n t b) (g .plan) (hold-quiet r n t b (g .plan)) (v .contents))
+    (zero-same b (put-on-hold r n t b) (g .zeroed) (λ a. refl) refl refl (v .zero-words))
     v
 
 -- ---- the hold is dropped

@@ -15,7 +15,7 @@ use Rattle.rules.specs.Limits.{register-count, half-word}
 use Rattle.rules.specs.Parts.{Word, Box}
 use Rattle.rules.specs.Box.{handle-of, names-tuple, register, put-register, marked, set-deep}
 use Rattle.rules.specs.Place.{Place, copy-place, at, write, shade}
-use Rattle.rules.specs.Request.{hold, new-entry, take-room, new-tuple}
+use Rattle.rules.specs.Request.{put-on-hold, new-entry, take-room, new-tuple}
 use Rattle.history.specs.Machine.{Asked as Wanted, word-of, HWord, datum, pointer-to, History, register-of, size-at, made, put-in, make, advance-by, load-from, store-to, size-to, tag-to, do-request, hold-request, with-hold}
 use Rattle.history.specs.Calls.{Pending, Log, given-by, disturb, pend, log-done, log-held}
 use Rattle.history.proofs.Invariant.Statement.{Scans, Ghosts, Inv, Kept}
@@ -131,8 +131,8 @@ good-done m h b t l k q c g number u s v r x =
 
 -- ---- a request put on hold
 
-hold-m : (r n tag : ℕ) (b : Box) → hold r n tag b .m ≡ b .m
-unfolding hold
+hold-m : (r n tag : ℕ) (b : Box) → put-on-hold r n tag b .m ≡ b .m
+unfolding put-on-hold
 hold-m r n tag b = refl
 
 -- the request, and the log's note of it
@@ -143,8 +143,8 @@ abbrev put-off : ℕ → ℕ → ℕ → History → Pending
 put-off r n tag t = record { asked = wanted r n tag; history-then = with-hold (some (wanted r n tag)) t; steps = 0 }
 
 pub good-hold : (m h : ℕ) (b : Box) (t : History) (l : Log) (k : Good m h b t l) (r n tag : ℕ) → r < register-count → tag < half-word
-    → b .hold .held ≡ false → Good m h (hold r n tag b) (hold-request (Getm r n tag) t) (log-held (hold-request (Getm r n tag) t) l)
-unfolding hold hold-request log-held pend
+    → b .hold .held ≡ false → Good m h (put-on-hold r n tag b) (hold-request (Getm r n tag) t) (log-held (hold-request (Getm r n tag) t) l)
+unfolding put-on-hold hold-request log-held pend
 good-hold m h b t l k r n tag lr tg u =
     record {
       m-is = k .m-is;
@@ -159,13 +159,13 @@ good-hold m h b t l k r n tag lr tg u =
       past = k .past;
     }
   where
-    same : left (hold r n tag b) (k .ghosts) ≡ left b (k .ghosts)
+    same : left (put-on-hold r n tag b) (k .ghosts) ≡ left b (k .ghosts)
     same = left-held r n tag b (k .ghosts) (k .ghosts) (k .inv) (invariant-hold b (k .ghosts) (k .inv) r n tag lr tg)
 
     bound : left b (k .ghosts) ≤ 8 * b .m + 2
     bound = left-bound-m b (k .ghosts) (k .inv)
 
-    wait : Held (hold r n tag b) (k .ghosts) (with-hold (some (wanted r n tag)) t) (wanted r n tag) (put-off r n tag t)
+    wait : Held (put-on-hold r n tag b) (k .ghosts) (with-hold (some (wanted r n tag)) t) (wanted r n tag) (put-off r n tag t)
     wait =
         record {
           register-is = refl;
@@ -177,12 +177,12 @@ good-hold m h b t l k r n tag lr tg u =
           in-time-twice = λ x z. omega (arith, same, bound, hold-m r n tag b);
         }
 
-    cycle : Cycling b (k .ghosts) t (k .number) (l .cycle) → Cycling (hold r n tag b) (k .ghosts) (with-hold (some (wanted r n tag)) t) (k .number) (l .cycle)
+    cycle : Cycling b (k .ghosts) t (k .number) (l .cycle) → Cycling (put-on-hold r n tag b) (k .ghosts) (with-hold (some (wanted r n tag)) t) (k .number) (l .cycle)
     cycle (between p o) = between p o
     cycle (under-way p y o w) =
         under-way p y o
         (record {
-          tracked = tracked-asked b (k .ghosts .plan) (hold r n tag b) t (with-hold (some (wanted r n tag)) t) (k .number) (y .started) (record {
+          tracked = tracked-asked b (k .ghosts .plan) (put-on-hold r n tag b) t (with-hold (some (wanted r n tag)) t) (k .number) (y .started) (record {
             phase-same = refl;
             tuple-same = refl;
             marked-from = λ x z. inl z;

@@ -17,7 +17,7 @@ use Rattle.rules.specs.Parts.{Box}
 use Rattle.rules.specs.Box.{Reply, reply, data-word, word-at, tag-of, register, size-of, lengths-are, right-sizes}
 use Rattle.rules.specs.Place.{place, read}
 use Rattle.rules.specs.Open.{opened, opening}
-use Rattle.rules.specs.Request.{hold, same-word, request}
+use Rattle.rules.specs.Request.{put-on-hold, same-word, request}
 use Rattle.rules.specs.Collector.{at-rest, unheld, granted, end-cycle, step}
 use Rattle.history.specs.Calls.{RequestInWidth}
 use Rattle.history.proofs.Invariant.Statement.{Ghosts, Inv, Kept}
@@ -126,7 +126,7 @@ never-nine-request q b g v = go (asked q b)
     go (Asked.refuses-unsound f e) = absurd (true-is-not-false (sym (sound-box b g v) ∙ f))
     go (Asked.refuses {q} a x y z e) = answers (request q b) b a 9 e z
     go (Asked.refuses-lost f h x e) = absurd (never-loss b g v x)
-    go (Asked.holds {r} {n} {t} f h l z m e) = answers (request (Getm r n t) b) (hold r n t b) 7 9 e (omega arith)
+    go (Asked.holds {r} {n} {t} f h l z m e) = answers (request (Getm r n t) b) (put-on-hold r n t b) 7 9 e (omega arith)
     go (Asked.sets-data f h l e) = done e
     go (Asked.sets-nil f h l e) = done e
     go (Asked.moves f h l u e) = done e

@@ -5,7 +5,7 @@ use Prim.Native.Nat.{ℕ, zero, suc, _≤_}
 use mathlib.Core.Path.{_≡_, refl, ap, _∙_}
 use native.Mathlib.Omega.{arith}
 use Rattle.rules.specs.Parts.{Box}
-use Rattle.rules.specs.Request.{hold}
+use Rattle.rules.specs.Request.{put-on-hold}
 use Rattle.history.proofs.Invariant.Statement.{Ghosts, Inv, Stage, at-rest, finding, scanning, adding, sweeping, reading, clearing, writing, zeroing}
 use Rattle.history.proofs.Left.Count.{left, left-in, total-same}
 use Rattle.history.proofs.Left.Falls.{SameMarking, SameLists, SamePlace, marking-same}
@@ -62,6 +62,6 @@ left-same b g c g′ v w s h o p e =
     }) (same-lists b g c g′ v w s h) o
 
 -- a request is put on hold
-pub left-held : (r n tag : ℕ) (b : Box) (g g′ : Ghosts) → Inv b g → Inv (hold r n tag b) g′ → left (hold r n tag b) g′ ≡ left b g
-unfolding hold
-left-held r n tag b g g′ v w = left-same b g (hold r n tag b) g′ v w (search) (search) (search) refl refl
+pub left-held : (r n tag : ℕ) (b : Box) (g g′ : Ghosts) → Inv b g → Inv (put-on-hold r n tag b) g′ → left (put-on-hold r n tag b) g′ ≡ left b g
+unfolding put-on-hold
+left-held r n tag b g g′ v w = left-same b g (put-on-hold r n tag b) g′ v w (search) (search) (search) refl refl

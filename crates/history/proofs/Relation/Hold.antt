@@ -11,7 +11,7 @@ use Rattle.rules.specs.declared.kinds.Request.{Request}
 use Rattle.rules.specs.declared.kinds.Request.the-variants.{Setd, Nil, Move, Advance, Getm, Load, Store, Size, Tag, Same}
 use Rattle.rules.specs.Limits.{register-count}
 use Rattle.rules.specs.Parts.{Box}
-use Rattle.rules.specs.Request.{hold}
+use Rattle.rules.specs.Request.{put-on-hold}
 use Rattle.rules.specs.Collector.{unheld}
 use Rattle.history.specs.Machine.{HWord, datum, pointer-to, Asked, History, fresh, register-of, size-at, word-of, made, with-hold, put-in, make, advance-by, load-from, store-to, size-to, tag-to, do-request, hold-request, grant}
 use Rattle.history.proofs.Invariant.Statement.{Plan, Kept, Contents}
@@ -44,11 +44,11 @@ related-with-hold o b p m given number s =
 
 -- a GETM answered 7
 pub related-hold : (r n t : ℕ) (b : Box) (p : Plan) (m : History) (given : List ℕ) (number : ℕ → ℕ) → Related b p m given number
-    → Related (hold r n t b) p (hold-request (Getm r n t) m) given number
-unfolding hold hold-request
+    → Related (put-on-hold r n t b) p (hold-request (Getm r n t) m) given number
+unfolding put-on-hold hold-request
 related-hold r n t b p m given number s =
-    related-with-hold (some (record { register = r; size = n; tag = t })) (hold r n t b) p m given number
-    (related-calm b (hold r n t b) p p m given number (quiet-calm b p (hold r n t b) p (hold-quiet r n t b p)) refl s)
+    related-with-hold (some (record { register = r; size = n; tag = t })) (put-on-hold r n t b) p m given number
+    (related-calm b (put-on-hold r n t b) p p m given number (quiet-calm b p (put-on-hold r n t b) p (hold-quiet r n t b p)) refl s)
 
 -- the hold dropped from the box
 pub related-unheld : (b : Box) (p : Plan) (m : History) (given : List ℕ) (number : ℕ → ℕ) → Related b p m given number → Related (unheld b) p m given number

@@ -13,7 +13,7 @@ use Rattle.rules.specs.Limits.{half-word, register-count}
 use Rattle.rules.specs.Parts.{Word, Box}
 use Rattle.rules.specs.Box.{Reply, reply, data-word, pointer, handle-of, offset-of, tag-of, is-nil, names-tuple, register, put-register, size-of, marked, set-deep, sound}
 use Rattle.rules.specs.Place.{Place, place, in-memory, read, write, can-shade, shade}
-use Rattle.rules.specs.Request.{new-tuple, hold, at-tuple, word-number, at-word, done, advance, getm, load, shades, shaded-first, deepened, store-word, store, size as size-rule, tag-at, tag as tag-rule, same-word, same, is-register, registers-right, carry-out, request}
+use Rattle.rules.specs.Request.{new-tuple, put-on-hold, at-tuple, word-number, at-word, done, advance, getm, load, shades, shaded-first, deepened, store-word, store, size as size-rule, tag-at, tag as tag-rule, same-word, same, is-register, registers-right, carry-out, request}
 use Rattle.history.proofs.View.Tests.{and-left, and-right, le?, lt?, eq?, true?, Entry, entry?, entry-true, entry-false, Shading, shading, shaded, unshaded, shade-lost, shade-total, can-shade-marked, can-shade-unmarked, can-shade-lost, can-shade-total, shade-marked, NoRoom, Room, room?, no-room-true, no-room-false, can-make-rest, can-make-counted, can-make-lost, can-make-total}
 
 -- the tuple that a register points to, and the number of the word that its offset and k name
@@ -51,7 +51,7 @@ pub data Asked (b : Box) : Request → Type 0 where
   refuses-lost : {q : Request} → sound b ≡ true → b .hold .held ≡ false → Loss b → request q b ≡ reply b 9 → Asked b q
   -- 5, put on hold
   holds : {r n t : ℕ} → sound b ≡ true → b .hold .held ≡ false → r < register-count → n + 1 ≤ b .m → NoRoom n b
-      → request (Getm r n t) b ≡ reply (hold r n t b) 7 → Asked b (Getm r n t)
+      → request (Getm r n t) b ≡ reply (put-on-hold r n t b) 7 → Asked b (Getm r n t)
   -- 1 to 4
   sets-data : {r v : ℕ} → sound b ≡ true → b .hold .held ≡ false → r < register-count
       → request (Setd r v) b ≡ done (put-register r (data-word v) b) → Asked b (Setd r v)

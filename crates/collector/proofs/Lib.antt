@@ -1,0 +1,11 @@
+pub mod Bounds
+pub mod Compare
+pub mod Entries
+pub mod Shading
+pub mod Tuples
+pub mod Ending
+pub mod Granting
+pub mod Rooting
+pub mod Marking
+pub mod Sweeping
+pub mod Moving

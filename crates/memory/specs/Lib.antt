@@ -1,3 +1,0 @@
-pub mod Boxed
-pub mod Found
-pub mod Decide

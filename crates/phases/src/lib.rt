@@ -1,0 +1,6 @@
+// The collector's phases on the lent parts: the look at the registers, the nine phases, and the rule that the phase picks.
+mod choice;
+mod look;
+mod phases;
+
+pub use choice::rule;

@@ -1,0 +1,4 @@
+pub mod Sizes
+pub mod AsFound
+pub mod Kept
+pub mod Runs
