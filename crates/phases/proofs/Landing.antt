@@ -11,6 +11,15 @@ use Rattle.rules.proofs.Kept.{Outline, outline, Keeps, same, granted-keeps}
 use Rattle.collector.specs.declared.state.State.{State}
 use Rattle.collector.specs.Decide.{with-grant, Grants}
 
+-- a granted request keeps the sizes, the lengths and the request that the hold names
+pub grant-outline : (b : Box) (a : ℕ) → outline (with-grant (reply b a) .box) ≡ outline b
+unfolding with-grant
+grant-outline b a = go (eqb a 32)
+  where
+    go : (t : Bool) → outline (cond t (reply (granted b) 32) (reply b a) .box) ≡ outline b
+    go true = granted-keeps b b (same b) .outline-same
+    go false = refl
+
 -- ---- P0 and P1 make a box of registers and a struct, with the columns as they were and as they are left
 
 module _ (F : Box → Reply) (P0 P1 : Registers → State → Box) (q : Registers) (s x : State) (a : ℕ) where
@@ -26,16 +35,8 @@ module _ (F : Box → Reply) (P0 P1 : Registers → State → Box) (q : Register
   pub landed-outline : reply (P1 q x) a ≡ F (P0 q s) → Keeps (P0 q s) (F (P0 q s) .box) → outline (P1 q x) ≡ outline (P0 q s)
   landed-outline e k = ap (λ (r : Reply). outline (r .box)) e ∙ k .outline-same
 
-  grant-outline : (b : Box) → outline (with-grant (reply b a) .box) ≡ outline b
-  unfolding with-grant
-  grant-outline b = go (eqb a 32)
-    where
-      go : (t : Bool) → outline (cond t (reply (granted b) 32) (reply b a) .box) ≡ outline b
-      go true = granted-keeps b b (same b) .outline-same
-      go false = refl
-
   pub granted-outline : with-grant (reply (P1 q x) a) ≡ F (P0 q s) → Keeps (P0 q s) (F (P0 q s) .box) → outline (P1 q x) ≡ outline (P0 q s)
-  granted-outline e k = sym (grant-outline (P1 q x)) ∙ ap (λ (r : Reply). outline (r .box)) e ∙ k .outline-same
+  granted-outline e k = sym (grant-outline (P1 q x) a) ∙ ap (λ (r : Reply). outline (r .box)) e ∙ k .outline-same
 
 -- what is granted, said of the struct in the arrays
 pub landed-grants : (s x z z1 : State) (a : ℕ) → Grants (s .m) (s .h) x a → s ≡ z → z1 ≡ x → Grants (z .m) (z .h) z1 a

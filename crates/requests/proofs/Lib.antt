@@ -1,5 +1,4 @@
 pub mod Accesses
-pub mod Carrying
 pub mod Findings
 pub mod Lending
 pub mod Moves

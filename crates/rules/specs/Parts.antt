@@ -1,4 +1,4 @@
--- Document 01, "Sizes of the box": what a box is made of, and one setter for each field. No other file lists a part's fields.
+-- Document 01, "Sizes of the box": what a box is made of, and one setter for each field.
 use Prim.Native.Nat.{ℕ}
 use mathlib.Core.Bool.{Bool, false}
 use mathlib.Core.List.{List}

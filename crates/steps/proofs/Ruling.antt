@@ -11,9 +11,10 @@ use Rattle.rules.specs.Box.{Reply, reply, sound}
 use Rattle.rules.specs.Collector.{granted, rule-of, step}
 use Rattle.rules.specs.Run.{Ran, ran, counted}
 use Rattle.rules.proofs.Sizes.{Lengths, Ranges}
-use Rattle.rules.proofs.Kept.{Outline, outline, Keeps, same, granted-keeps, rule-keeps, step-keeps, step-sound}
+use Rattle.rules.proofs.Kept.{Outline, outline, Keeps, rule-keeps, step-keeps, step-sound}
 use Rattle.collector.specs.Decide.{with-grant}
 use Rattle.collector.proofs.Granting.{ungranted}
+use Rattle.phases.proofs.Landing.{grant-outline}
 use Rattle.steps.specs.Stretch.{stretch}
 
 module _ (b : Box) where
@@ -32,14 +33,6 @@ module _ (b : Box) where
   step-refused t = simp t
 
 -- ---- what a rule leaves has the sizes and lengths of what it found
-
-grant-outline : (b : Box) (a : ℕ) → outline (with-grant (reply b a) .box) ≡ outline b
-unfolding with-grant
-grant-outline b a = go (eqb a 32)
-  where
-    go : (t : Bool) → outline (cond t (reply (granted b) 32) (reply b a) .box) ≡ outline b
-    go true = granted-keeps b b (same b) .outline-same
-    go false = refl
 
 pub ruled-outline : (p : ℕ) (b x : Box) (a : ℕ) → with-grant (reply x a) ≡ rule-of p b → outline x ≡ outline b
 ruled-outline p b x a e = sym (grant-outline x a) ∙ ap (λ (r : Reply). outline (r .box)) e ∙ rule-keeps b p .outline-same
