@@ -2,6 +2,7 @@
 //! wrapper: the lent parts as the library sees them, one method per function.
 
 use std::fmt::Debug;
+use std::marker::PhantomData;
 
 use crate::call::Request;
 use crate::unit::{Hold, State, Unit, Word};
@@ -91,31 +92,31 @@ functions! {
     gloamish_run(budget: u32) -> u64;
 }
 
-/// Calls a function with the arrays and the columns of the lent parts.
+/// Calls a function with the arrays and the columns that are lent.
 macro_rules! lend {
-    ($lent:expr, $function:ident($($first:expr),*)) => {
+    ($parts:expr, $function:ident($($first:expr),*)) => {
         // The pointers are to the parts' own buffers, with their lengths, and
-        // nothing else refers to them during the call. Flags are 0 or 1.
+        // nothing else refers to them while they are lent. Flags are 0 or 1.
         unsafe {
             $function(
                 $($first,)*
-                $lent.numbers.array(),
-                $lent.switches.array(),
-                $lent.hold.array(),
-                $lent.words.pointer(),
-                $lent.words.len(),
-                $lent.flags.pointer(),
-                $lent.flags.len(),
-                $lent.addresses.pointer(),
-                $lent.addresses.len(),
-                $lent.sizes.pointer(),
-                $lent.sizes.len(),
-                $lent.links.pointer(),
-                $lent.links.len(),
-                $lent.marks.pointer(),
-                $lent.marks.len(),
-                $lent.deeps.pointer(),
-                $lent.deeps.len(),
+                $parts.numbers,
+                $parts.switches,
+                $parts.hold,
+                $parts.words.0,
+                $parts.words.1,
+                $parts.flags.0,
+                $parts.flags.1,
+                $parts.addresses.0,
+                $parts.addresses.1,
+                $parts.sizes.0,
+                $parts.sizes.1,
+                $parts.links.0,
+                $parts.links.1,
+                $parts.marks.0,
+                $parts.marks.1,
+                $parts.deeps.0,
+                $parts.deeps.1,
             )
         }
     };
@@ -187,6 +188,11 @@ impl<T: Cell> Column<T> {
         self.0.as_mut_ptr().wrapping_add(GUARDS)
     }
 
+    /// The cells as the library takes a column.
+    fn slice(&mut self) -> (*mut T, usize) {
+        (self.pointer(), self.len())
+    }
+
     /// The cells as an array, which must be so long.
     fn array<const N: usize>(&mut self) -> *mut [T; N] {
         assert_eq!(self.len(), N);
@@ -216,6 +222,37 @@ pub struct Lent {
     pub links: Column<u32>,
     pub marks: Column<u8>,
     pub deeps: Column<u8>,
+}
+
+/// The pointers and lengths of lent parts.
+pub struct Parts<'a> {
+    numbers: *mut [u32; NUMBERS],
+    switches: *mut [u8; SWITCHES],
+    hold: *mut [u16; HOLD],
+    words: (*mut u32, usize),
+    flags: (*mut u8, usize),
+    addresses: (*mut u32, usize),
+    sizes: (*mut u32, usize),
+    links: (*mut u32, usize),
+    marks: (*mut u8, usize),
+    deeps: (*mut u8, usize),
+    lent: PhantomData<&'a mut Lent>,
+}
+
+impl Parts<'_> {
+    /// A request by the number of its kind and its fields.
+    pub fn request(&mut self, [kind, a, b, c]: [u32; 4]) -> u32 {
+        lend!(self, gloamish_request(kind, a, b, c))
+    }
+
+    pub fn step(&mut self) -> u32 {
+        lend!(self, gloamish_step())
+    }
+
+    /// Steps times 256, and the answer.
+    pub fn run(&mut self, budget: u32) -> u64 {
+        lend!(self, gloamish_run(budget))
+    }
 }
 
 impl Lent {
@@ -251,22 +288,38 @@ impl Lent {
         self.deeps.take(bytes(&unit.deeps));
     }
 
-    pub fn open(&mut self, m: u32, h: u32) -> u32 {
-        lend!(self, gloamish_open(m, h))
+    /// The parts as a caller in C has them: pointers and lengths.
+    pub fn parts(&mut self) -> Parts<'_> {
+        Parts {
+            numbers: self.numbers.array(),
+            switches: self.switches.array(),
+            hold: self.hold.array(),
+            words: self.words.slice(),
+            flags: self.flags.slice(),
+            addresses: self.addresses.slice(),
+            sizes: self.sizes.slice(),
+            links: self.links.slice(),
+            marks: self.marks.slice(),
+            deeps: self.deeps.slice(),
+            lent: PhantomData,
+        }
     }
 
-    /// A request by the number of its kind and its fields.
-    pub fn request(&mut self, [kind, a, b, c]: [u32; 4]) -> u32 {
-        lend!(self, gloamish_request(kind, a, b, c))
+    pub fn open(&mut self, m: u32, h: u32) -> u32 {
+        let parts = self.parts();
+        lend!(parts, gloamish_open(m, h))
+    }
+
+    pub fn request(&mut self, numbers: [u32; 4]) -> u32 {
+        self.parts().request(numbers)
     }
 
     pub fn step(&mut self) -> u32 {
-        lend!(self, gloamish_step())
+        self.parts().step()
     }
 
-    /// Steps times 256, and the answer.
     pub fn run(&mut self, budget: u32) -> u64 {
-        lend!(self, gloamish_run(budget))
+        self.parts().run(budget)
     }
 
     /// True if every cell of every part is the same as in the second

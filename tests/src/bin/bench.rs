@@ -189,10 +189,11 @@ fn measure(name: &str, calls: &[Call]) -> bool {
             }
         });
         lent.open(M, H);
+        let mut parts = lent.parts();
         through.turn(&numbers, |call| match call[0] {
-            STEP => lent.step().into(),
-            RUN => lent.run(call[1]),
-            _ => lent.request(call).into(),
+            STEP => parts.step().into(),
+            RUN => parts.run(call[1]),
+            _ => parts.request(call).into(),
         });
         if plain.answers != through.answers || !lent.same(&player.unit()) {
             println!("{name}: the two do not agree");
