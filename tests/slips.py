@@ -1,10 +1,13 @@
 #!/usr/bin/env python3
-"""Demand 3 shuts out the five "slips that look right" of document 01.
+"""Demand 3 shuts out the five "slips that look right" of document 01, and one more.
 
 Each slip is made, one at a time, in the definitions of a copy of crates/rules. Over the copy three things are checked:
 whether the twelve bench cases (`every-case`) still hold; that the proof of demand 3 is refused, and at which lemmas, without
 those that only rest on refused ones; and that demand 3 itself is false there, so that no proof of it can be found: from the
 claim and one short list of calls a contradiction is proved. Without a slip demand 3 is proved and each of these lists is refused.
+
+In the copy the laws of the rules that the proof cites stand among its own files, so that a slip is seen at the lemma where it
+is first refused. specs/Played.antt is left out: like the bench cases, it is what the definitions compute.
 
     tests/slips.py            the control and every slip: a few minutes
     tests/slips.py 3 4a       these alone
@@ -133,6 +136,20 @@ SLIPS = [
         "part 2, never 9: the handle found there is 0, and the third step answers 9",
         "x .never-nine .0 refl",
     ),
+    Slip(
+        "6",
+        "a collector that never ends its cycle on an empty heap",
+        [
+            (
+                "Collector.antt",
+                "end-marking b = cond (eqb (b .top) 0) (end-cycle b b) (going (begin-sweep b))",
+                "end-marking b = cond (eqb (b .top) 0) (going b) (going (begin-sweep b))",
+            )
+        ],
+        ["single-step", "single-step"],
+        "part 7, cycles bounded: top is 0, and the cycle under way has taken 2 steps and not fewer than 2",
+        "let e : _<_ 2 2 = x .cycle-under-way-bounded refl in omega arith",
+    ),
 ]
 
 
@@ -157,9 +174,18 @@ def one_line(text):
 
 # ---- the copy
 
+# the laws of the rules that the proof of demand 3 cites (crates/rules/proofs)
+LAWS = ("Sizes", "View")
+# how paths read once they stand among the proofs of history
+AMONG_HISTORY = [
+    ("Rattle.rules.proofs.", "Rattle.history.proofs."),
+    ("Rattle.rules.proofs.", "Rattle.history.proofs."),
+    ("Rattle.rules.specs.", "Rattle.rules.specs."),
+]
+
 
 class Copy:
-    """A repository of the crates rules and history."""
+    """A repository of the crates rules and history, with the laws of the rules among the proofs of history."""
 
     def __init__(self, where):
         self.where = where
@@ -169,6 +195,7 @@ class Copy:
         for part in ("src", "specs"):
             shutil.copytree(os.path.join(ROOT, "crates", "history", part), os.path.join(self.history, part))
         write(os.path.join(where, "crates.txt"), "rules:\nhistory: rules\n")
+        self.leave_out(self.history, "Played")
         self.edit([])
         self.proofs_of_demand3()
 
@@ -195,15 +222,29 @@ class Copy:
         write(path, "".join(parts))
         return [name for _, _, name, _ in self.check("rules")[1]]
 
-    def leave_cases_out(self):
-        specs = os.path.join(self.rules, "specs")
-        write(os.path.join(specs, "Lib.antt"), read(os.path.join(specs, "Lib.antt")).replace("pub mod Cases\n", ""))
-        os.remove(os.path.join(specs, "Cases.antt"))
+    def leave_out(self, crate, name):
+        specs = os.path.join(crate, "specs")
+        write(os.path.join(specs, "Lib.antt"), read(os.path.join(specs, "Lib.antt")).replace(f"pub mod {name}\n", ""))
+        os.remove(os.path.join(specs, name + ".antt"))
 
     def proofs_of_demand3(self):
+        """The proofs of history, and the laws of the rules among them."""
         proofs = os.path.join(self.history, "proofs")
+        laws = os.path.join(ROOT, "crates", "rules", "proofs")
         shutil.rmtree(proofs, ignore_errors=True)
         shutil.copytree(os.path.join(ROOT, "crates", "history", "proofs"), proofs)
+        for name in LAWS:
+            shutil.copy(os.path.join(laws, name + ".antt"), proofs)
+            if os.path.isdir(os.path.join(laws, name)):
+                shutil.copytree(os.path.join(laws, name), os.path.join(proofs, name))
+        lib = os.path.join(proofs, "Lib.antt")
+        write(lib, read(lib) + "".join(f"pub mod {name}\n" for name in LAWS))
+        for folder, _, names in os.walk(proofs):
+            for name in names:
+                text = read(os.path.join(folder, name))
+                for old, new in AMONG_HISTORY:
+                    text = text.replace(old, new)
+                write(os.path.join(folder, name), text)
 
     def refutations(self, slips):
         """In place of the proofs: that demand 3 is false, by the calls of each of these slips."""
@@ -281,6 +322,11 @@ class Copy:
         return "?", ""
 
 
+def stands_in(name):
+    """The crate and file that a file of the copy is taken from."""
+    return re.sub(rf"^history/proofs/({'|'.join(LAWS)})\b", r"rules/proofs/\1", name)
+
+
 def show_refused(copy, errors):
     own = [e for e in errors if "was not admitted" not in e[3]]
     shown = []
@@ -288,7 +334,7 @@ def show_refused(copy, errors):
         lemma, said = copy.lemma_at(name, line)
         if (name, lemma) not in shown:
             shown.append((name, lemma))
-            print(f"    {name}: `{lemma}`{': ' + said if said else ''}")
+            print(f"    {stands_in(name)}: `{lemma}`{': ' + said if said else ''}")
     print(f"    and {len(errors) - len(own)} errors in proofs that rest on {'this' if len(shown) == 1 else 'these'}, up to `demand3`")
 
 
@@ -320,7 +366,7 @@ def try_slip(copy, slip):
         fail(f"slip {slip.number} is no definition: {others[0]}")
     print(f"  the twelve bench cases: {'all hold' if cases else '`every-case` is refused, for ' + ', '.join(copy.refused_cases())}")
     if not cases:
-        copy.leave_cases_out()
+        copy.leave_out(copy.rules, "Cases")
         if not copy.check("rules")[0]:
             fail(f"slip {slip.number}: the definitions without the bench cases are refused")
 
@@ -342,24 +388,25 @@ def try_slip(copy, slip):
     return not proved and reached and false
 
 
-def main():
-    known = ["control"] + [s.number for s in SLIPS]
+def try_all(word, things, control, try_one):
+    """The control and all of these things, or those that the command line names; ends the program with what came of it."""
+    known = ["control"] + [thing.number for thing in things]
     wanted = sys.argv[1:] or known
     for number in wanted:
         if number not in known:
-            fail(f"there is no slip {number}; there are {' '.join(known)}")
-    where = tempfile.mkdtemp(prefix="slips-")
+            fail(f"there is no {word} {number}; there are {' '.join(known)}")
+    where = tempfile.mkdtemp(prefix=word + "s-")
     try:
         copy = Copy(where)
         right = "control" not in wanted or control(copy)
-        for slip in SLIPS:
-            if slip.number in wanted:
-                right = try_slip(copy, slip) and right
+        for thing in things:
+            if thing.number in wanted:
+                right = try_one(copy, thing) and right
     finally:
         shutil.rmtree(where, ignore_errors=True)
-    print("\nslips: " + ("all as it should be" if right else "NOT as it should be"))
+    print(f"\n{word}s: " + ("all as it should be" if right else "NOT as it should be"))
     sys.exit(0 if right else 1)
 
 
 if __name__ == "__main__":
-    main()
+    try_all("slip", SLIPS, control, try_slip)

@@ -190,9 +190,11 @@ fn p10_held_then_failed() {
         }
     };
     assert_eq!(answer, 8);
+    assert!(!bench.unit().state.hold.held);
     let mut bench = Bench::p2();
     bench.getm(2, 11, 0, 7);
     assert_eq!(bench.0.call(Call::Run(u32::MAX)), Ok(8));
+    assert!(!bench.unit().state.hold.held);
 }
 
 #[test]

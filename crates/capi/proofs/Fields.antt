@@ -1,12 +1,11 @@
 -- The tests of 16-bit fields, and the request of each kind's number. Assumes nothing.
 use Prim.Native.Nat.{ℕ, zero, suc, _<_, _≤_}
 use mathlib.Core.Path.{_≡_, refl}
-use mathlib.Core.Bool.{Bool, true, false}
+use mathlib.Core.Bool.{true, false}
 use native.Mathlib.Omega.{arith}
-use lib.Dec.{ltb}
 use borrow.Author.Tests.{lt-ltb, le-ltb}
 use Rattle.capi.specs.declared.asked.Asked.{Asked}
-use Rattle.capi.specs.declared.asked.Asked.the-variants.{Known, Unknown}
+use Rattle.capi.specs.declared.asked.Asked.the-variants.{Unknown}
 use Rattle.capi.specs.Calls.{half, request-of}
 use Rattle.capi.specs.Asked.{asked-as}
 

@@ -5,9 +5,9 @@ use mathlib.Core.Option.{Option, none, some}
 use native.Mathlib.Omega.{arith}
 use Rattle.rules.specs.declared.kinds.Request.{Request}
 use Rattle.rules.specs.Parts.{Box}
-use Rattle.rules.specs.Box.{Reply, reply}
+use Rattle.rules.specs.Box.{reply}
 use Rattle.rules.specs.Request as rules-request
-use Rattle.rules.specs.Run.{Ran, ran, run}
+use Rattle.rules.specs.Run.{ran, run}
 use Rattle.capi.specs.declared.asked.Asked.{Asked}
 use Rattle.capi.specs.declared.asked.Asked.the-variants.{Known, Unknown}
 use Rattle.capi.specs.Calls.{not-understood, request-of, c-asked, c-request, in-one, c-run}

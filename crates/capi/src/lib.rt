@@ -6,11 +6,7 @@ mod asked;
 use asked::Asked;
 ghost use mathlib.Core.Path.{_≡_};
 ghost use Prim.Native.Nat.{_<_};
-ghost use Rattle.rules.specs.Box.{reply};
-ghost use Rattle.rules.specs.Collector.{step};
-ghost use Rattle.rules.specs.Open.{opening};
-ghost use Rattle.lent.specs.Lent.{lent};
-ghost use Rattle.capi.specs.Calls.{c-request, c-run};
+ghost use Rattle.capi.specs.Promises.{parts, Opens, Asks, Steps, Runs};
 
 // The answer to an unknown kind, or a 16-bit field above 65,535.
 const NOT_UNDERSTOOD: u32 = 4294967295;
@@ -31,7 +27,7 @@ pub extern "C" fn gloamish_open(
     marks: &mut [bool],
     deeps: &mut [bool],
 ) -> u32
-    ensures { λ r. ⌜ reply (lent (now (numbers .exit)) (now (switches .exit)) (now (hold .exit)) (now (words .exit)) (now (flags .exit)) (now (addresses .exit)) (now (sizes .exit)) (now (links .exit)) (now (marks .exit)) (now (deeps .exit))) r ≡ opening m h (lent (now (numbers .entry)) (now (switches .entry)) (now (hold .entry)) (now (words .entry)) (now (flags .entry)) (now (addresses .entry)) (now (sizes .entry)) (now (links .entry)) (now (marks .entry)) (now (deeps .entry))) ⌝ }
+    ensures { λ r. ⌜ Opens m h (parts (now (numbers .entry)) (now (switches .entry)) (now (hold .entry)) (now (words .entry)) (now (flags .entry)) (now (addresses .entry)) (now (sizes .entry)) (now (links .entry)) (now (marks .entry)) (now (deeps .entry))) (parts (now (numbers .exit)) (now (switches .exit)) (now (hold .exit)) (now (words .exit)) (now (flags .exit)) (now (addresses .exit)) (now (sizes .exit)) (now (links .exit)) (now (marks .exit)) (now (deeps .exit))) r ⌝ }
 {
     memory::open(
         m,
@@ -68,7 +64,7 @@ pub extern "C" fn gloamish_request(
     marks: &mut [bool],
     deeps: &mut [bool],
 ) -> u32
-    ensures { λ r. ⌜ reply (lent (now (numbers .exit)) (now (switches .exit)) (now (hold .exit)) (now (words .exit)) (now (flags .exit)) (now (addresses .exit)) (now (sizes .exit)) (now (links .exit)) (now (marks .exit)) (now (deeps .exit))) r ≡ c-request kind a b c (lent (now (numbers .entry)) (now (switches .entry)) (now (hold .entry)) (now (words .entry)) (now (flags .entry)) (now (addresses .entry)) (now (sizes .entry)) (now (links .entry)) (now (marks .entry)) (now (deeps .entry))) ⌝ }
+    ensures { λ r. ⌜ Asks kind a b c (parts (now (numbers .entry)) (now (switches .entry)) (now (hold .entry)) (now (words .entry)) (now (flags .entry)) (now (addresses .entry)) (now (sizes .entry)) (now (links .entry)) (now (marks .entry)) (now (deeps .entry))) (parts (now (numbers .exit)) (now (switches .exit)) (now (hold .exit)) (now (words .exit)) (now (flags .exit)) (now (addresses .exit)) (now (sizes .exit)) (now (links .exit)) (now (marks .exit)) (now (deeps .exit))) r ⌝ }
 {
     let Asked::Known(q) = asked::request_of(kind, a, b, c) else {
         return NOT_UNDERSTOOD;
@@ -102,7 +98,7 @@ pub extern "C" fn gloamish_step(
     marks: &mut [bool],
     deeps: &mut [bool],
 ) -> u32
-    ensures { λ r. ⌜ reply (lent (now (numbers .exit)) (now (switches .exit)) (now (hold .entry)) (now (words .exit)) (now (flags .exit)) (now (addresses .exit)) (now (sizes .exit)) (now (links .exit)) (now (marks .exit)) (now (deeps .exit))) r ≡ step (lent (now (numbers .entry)) (now (switches .entry)) (now (hold .entry)) (now (words .entry)) (now (flags .entry)) (now (addresses .entry)) (now (sizes .entry)) (now (links .entry)) (now (marks .entry)) (now (deeps .entry))) ⌝ }
+    ensures { λ r. ⌜ Steps (parts (now (numbers .entry)) (now (switches .entry)) (now (hold .entry)) (now (words .entry)) (now (flags .entry)) (now (addresses .entry)) (now (sizes .entry)) (now (links .entry)) (now (marks .entry)) (now (deeps .entry))) (parts (now (numbers .exit)) (now (switches .exit)) (now (hold .entry)) (now (words .exit)) (now (flags .exit)) (now (addresses .exit)) (now (sizes .exit)) (now (links .exit)) (now (marks .exit)) (now (deeps .exit))) r ⌝ }
 {
     memory::step(
         numbers,
@@ -133,7 +129,7 @@ pub extern "C" fn gloamish_run(
     marks: &mut [bool],
     deeps: &mut [bool],
 ) -> u64
-    ensures { λ r. ⌜ reply (lent (now (numbers .exit)) (now (switches .exit)) (now (hold .entry)) (now (words .exit)) (now (flags .exit)) (now (addresses .exit)) (now (sizes .exit)) (now (links .exit)) (now (marks .exit)) (now (deeps .exit))) r ≡ c-run budget (lent (now (numbers .entry)) (now (switches .entry)) (now (hold .entry)) (now (words .entry)) (now (flags .entry)) (now (addresses .entry)) (now (sizes .entry)) (now (links .entry)) (now (marks .entry)) (now (deeps .entry))) ⌝ }
+    ensures { λ r. ⌜ Runs budget (parts (now (numbers .entry)) (now (switches .entry)) (now (hold .entry)) (now (words .entry)) (now (flags .entry)) (now (addresses .entry)) (now (sizes .entry)) (now (links .entry)) (now (marks .entry)) (now (deeps .entry))) (parts (now (numbers .exit)) (now (switches .exit)) (now (hold .entry)) (now (words .exit)) (now (flags .exit)) (now (addresses .exit)) (now (sizes .exit)) (now (links .exit)) (now (marks .exit)) (now (deeps .exit))) r ⌝ }
 {
     let done = memory::run(
         budget,

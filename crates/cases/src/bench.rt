@@ -24,18 +24,18 @@ struct Ran {
 }
 
 impl Bench {
-    // The box opened 16, 4.
+    // The box opened 16, 4. What is lent to the opening holds other things before.
     pub(crate) fn opened() -> Bench {
-        let mut numbers = [0u32; 22];
-        let mut switches = [false; 11];
-        let mut hold = [0u16; 3];
-        let mut words = [0u32; 16];
-        let mut flags = [false; 16];
-        let mut addresses = [0u32; 4];
-        let mut sizes = [0u32; 4];
-        let mut links = [0u32; 4];
-        let mut marks = [false; 4];
-        let mut deeps = [false; 4];
+        let mut numbers = [7u32; 22];
+        let mut switches = [true; 11];
+        let mut hold = [7u16; 3];
+        let mut words = [7u32; 16];
+        let mut flags = [true; 16];
+        let mut addresses = [7u32; 4];
+        let mut sizes = [7u32; 4];
+        let mut links = [7u32; 4];
+        let mut marks = [true; 4];
+        let mut deeps = [true; 4];
         let answer = memory::open(
             16,
             4,

@@ -1,5 +1,5 @@
 // Runs the bench cases of document 01 on the proved memory unit, each from an opening of 16 words
-// and 4 entries. A case gives one line: its name, what each call answered, and what is then seen.
+// and 4 entries. A case gives one line: its name, what the opening and each call answered, and what is then seen.
 mod bench;
 mod show;
 
@@ -12,8 +12,7 @@ const CYCLE: u32 = 130;
 // A case's name, and a box for it.
 fn case(name: &[u8]) -> Bench {
     io::write_all(1, name);
-    io::write_all(1, b":");
-    Bench::opened()
+    Bench::opened().answered()
 }
 
 // The end of a case's line.
@@ -91,7 +90,7 @@ fn room() {
         n: 11,
         tag: 0,
     });
-    end(held.later(CYCLE).top());
+    end(held.later(CYCLE).top().held());
     end(
         second(case(b"P11"))
             .ask(Request::Getm {
@@ -105,7 +104,8 @@ fn room() {
 
 // The last word of a tuple and the word behind it; the largest offset.
 fn limits() {
-    let loaded = first(case(b"P12")).ask(Request::Load { r: 1, s: 0, k: 1 });
+    let data = first(case(b"P12")).ask(Request::Setd { r: 1, v: 0xABCD });
+    let loaded = data.ask(Request::Load { r: 1, s: 0, k: 1 });
     end(loaded.ask(Request::Load { r: 1, s: 0, k: 2 }).register(1));
     let nil = case(b"ADVANCE").ask(Request::Nil { r: 0 });
     let far = nil.ask(Request::Advance { r: 0, n: 65534 });

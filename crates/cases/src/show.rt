@@ -55,6 +55,24 @@ fn free_list(first: u32, links: [u32; 4]) {
 }
 
 impl Bench {
+    // What the opening answered.
+    pub(crate) fn answered(self) -> Bench {
+        io::write_all(1, b": opened");
+        number(self.answer);
+        io::write_all(1, b";");
+        self
+    }
+
+    // Whether a request is held.
+    pub(crate) fn held(self) -> Bench {
+        if self.switches[9] {
+            io::write_all(1, b", held");
+        } else {
+            io::write_all(1, b", nothing held");
+        }
+        self
+    }
+
     // The first word that no tuple takes.
     pub(crate) fn top(self) -> Bench {
         io::write_all(1, b", top");

@@ -1,15 +1,14 @@
 -- The end of a cycle by its cases, and that what is decided first decides it: refused it answers 9 with the box as found, and
 -- else what was found does not matter. By computing the definitions, case by case. Assumes nothing.
-use Prim.Native.Nat.{ℕ, _+_, _<_, _≤_}
-use mathlib.Core.Bool.{Bool, true, false, not, cond, _&&_, and-true, and-false, false≢true}
+use Prim.Native.Nat.{_<_, _≤_}
+use mathlib.Core.Bool.{Bool, true, false, not, cond, _&&_, and-true, false≢true}
 use mathlib.Core.List.{[]}
-use mathlib.Core.Path.{_≡_, refl, sym, _∙_}
-use lib.Dec.{leb, ltb, eqb}
+use mathlib.Core.Path.{_≡_, refl, sym}
 use borrow.Author.Tests.{lt-ltb, le-ltb, eq-eqb, ltb-true}
 use Rattle.rules.specs.Parts.{Box, with-held, with-live, with-phase, with-memory, with-directory, with-registers}
 use Rattle.collector.specs.Boxed.{blank}
 use Rattle.rules.specs.Box.{Reply, reply, is-entry}
-use Rattle.rules.specs.Request.{is-register, no-room, collecting, can-make, new-tuple}
+use Rattle.rules.specs.Request.{is-register, no-room, collecting, can-make}
 use Rattle.rules.specs.Collector.{at-rest, unheld, granted, try-held, settle, end-cycle}
 use Rattle.collector.specs.Decide.{end-refused}
 use Rattle.rules.proofs.Sizes.{and-left, and-right}

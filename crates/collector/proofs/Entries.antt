@@ -1,13 +1,13 @@
 -- Which handles can be looked up: 1 to H-1, and no other. By computing the definition. Assumes nothing.
 use Prim.Native.Nat.{ℕ, _<_, _≤_}
-use mathlib.Core.Bool.{Bool, true, false, and-false}
+use mathlib.Core.Bool.{true, false, and-false}
 use mathlib.Core.Path.{_≡_}
 use native.Mathlib.Omega.{arith}
 use lib.Dec.{leb, ltb}
-use borrow.Author.Tests.{lt-ltb, le-ltb, le-leb, lt-leb, ltb-true, leb-true}
+use borrow.Author.Tests.{lt-ltb, le-ltb, le-leb, lt-leb, ltb-true}
 use Rattle.rules.specs.Parts.{Box}
 use Rattle.rules.specs.Box.{is-entry}
-use Rattle.rules.proofs.Sizes.{and-left, and-right}
+use Rattle.rules.proofs.Sizes.{and-right}
 
 module _ (h : ℕ) (b : Box) where
   pub entry : 0 < h → h < b .h → is-entry h b ≡ true
@@ -26,10 +26,6 @@ module _ (h : ℕ) (b : Box) where
   pub entry-below : (h ≡ 0 → ⊥) → is-entry h b ≡ ltb h (b .h)
   unfolding is-entry
   entry-below n = simp (le-leb 1 h (omega arith))
-
-  pub entry-positive : is-entry h b ≡ true → 0 < h
-  unfolding is-entry
-  entry-positive e = leb-true 1 h (and-left (leb 1 h) (ltb h (b .h)) e)
 
   pub entry-small : is-entry h b ≡ true → h < b .h
   unfolding is-entry

@@ -1,9 +1,9 @@
 -- The marking rules by their cases: for each way through a rule, what it leaves and answers, from the facts that lead there.
 -- By computing the definitions under those facts. Assumes nothing.
 use Prim.Native.Nat.{ℕ, _+_, _<_, _≤_}
-use mathlib.Core.Bool.{Bool, true, false}
-use mathlib.Core.Path.{_≡_, sym, ap}
-use lib.Dec.{leb, ltb}
+use mathlib.Core.Bool.{true, false}
+use mathlib.Core.Path.{_≡_}
+use lib.Dec.{ltb}
 use borrow.Author.Tests.{le-leb, lt-leb, eq-eqb, ne-eqb}
 use Rattle.rules.specs.Parts.{Box, with-begun, with-current, with-index, with-live, with-next, with-phase, with-tuple}
 use Rattle.rules.specs.Box.{Reply, reply, word-at, handle-of, names-tuple, is-entry}

@@ -1,15 +1,13 @@
 -- The search for roots by its cases: what is done with the root found, or with none. By computing the definitions. Assumes
 -- nothing.
-use Prim.Native.Nat.{ℕ, suc, _+_, _-_, _<_, _≤_}
-use mathlib.Core.Bool.{Bool, true, false, not, cond, _&&_, _||_, false≢true}
-use mathlib.Core.Path.{_≡_, refl, sym, ap, _∙_}
-use native.Mathlib.Omega.{arith}
-use lib.Dec.{leb, ltb, eqb}
-use borrow.Author.Tests.{lt-ltb, le-ltb, eq-eqb, ne-eqb}
-use Rattle.rules.specs.Parts.{Word, Box, with-dest, with-phase, with-src, with-tuple}
-use Rattle.rules.specs.Box.{Reply, reply, word-at, handle-of, names-tuple, register, marked, is-entry}
+use Prim.Native.Nat.{ℕ}
+use mathlib.Core.Bool.{Bool, true, false, cond}
+use mathlib.Core.Path.{_≡_, refl}
+use borrow.Author.Tests.{eq-eqb, ne-eqb}
+use Rattle.rules.specs.Parts.{Box, with-dest, with-phase, with-src, with-tuple}
+use Rattle.rules.specs.Box.{Reply, reply, word-at, handle-of, is-entry}
 use Rattle.rules.specs.Place.{can-shade, shade}
-use Rattle.rules.specs.Collector.{Found, unmarked, damaged, nothing, look-register, look-from, begin-sweep, end-marking, mark-root, scan-next, mark-next, end-cycle}
+use Rattle.rules.specs.Collector.{Found, unmarked, damaged, look-from, begin-sweep, end-marking, mark-root, scan-next, mark-next, end-cycle}
 use Rattle.collector.specs.Decide.{end-refused, found-as}
 use Rattle.collector.proofs.Ending.{end-refuses}
 use Rattle.collector.proofs.Shading.{shadable-entry}

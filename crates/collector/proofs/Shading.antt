@@ -1,11 +1,11 @@
 -- Shading by its cases: for each way through the rule, whether it can be done and what it leaves, from the facts that lead
 -- there. By computing the definitions under those facts. Assumes nothing.
 use Prim.Native.Nat.{ℕ, _+_, _-_, _<_, _≤_}
-use mathlib.Core.Bool.{Bool, true, false, _||_}
+use mathlib.Core.Bool.{true, false, _||_}
 use mathlib.Core.Path.{_≡_}
 use native.Mathlib.Omega.{arith}
 use lib.Dec.{leb, ltb}
-use borrow.Author.Tests.{le-leb, lt-leb, leb-true}
+use borrow.Author.Tests.{lt-leb, leb-true}
 use Rattle.rules.specs.Parts.{Box}
 use Rattle.rules.specs.Box.{size-of, marked, deep, is-entry}
 use Rattle.rules.specs.Place.{can-shade, list-next, mark-live, shade}

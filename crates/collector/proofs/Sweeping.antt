@@ -1,10 +1,10 @@
 -- The sweep over the tuples by its cases: for each way through a rule, what it leaves and answers, from the facts that lead
 -- there. By computing the definitions under those facts. Assumes nothing.
 use Prim.Native.Nat.{ℕ, _+_, _-_, _<_, _≤_}
-use mathlib.Core.Bool.{Bool, true, false, not, cond, _&&_}
-use mathlib.Core.Path.{_≡_, refl, sym, _∙_}
-use lib.Dec.{leb, ltb, eqb}
-use borrow.Author.Tests.{lt-ltb, le-ltb, le-leb, lt-leb, eq-eqb, ne-eqb}
+use mathlib.Core.Bool.{true, false}
+use mathlib.Core.Path.{_≡_, _∙_}
+use lib.Dec.{leb, ltb}
+use borrow.Author.Tests.{lt-ltb, le-ltb, eq-eqb, ne-eqb}
 use Rattle.rules.specs.Parts.{Box, with-dest, with-free, with-index, with-phase, with-size, with-src, with-tuple}
 use Rattle.rules.specs.Box.{Reply, reply, word-at, handle-of, size-of, marked, set-mark, set-link, is-entry}
 use Rattle.rules.specs.Request.{no-room}

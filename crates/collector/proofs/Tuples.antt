@@ -4,10 +4,10 @@ use Prim.Native.Nat.{ℕ, _+_, _*_, _-_, _<_, _≤_}
 use native.Mathlib.Omega.{arith}
 use mathlib.Core.Bool.{Bool, true, false, not, cond, _||_}
 use mathlib.Core.List.{List}
-use mathlib.Core.Path.{_≡_, refl, sym, _∙_, ap}
+use mathlib.Core.Path.{_≡_, refl, _∙_, ap}
 use lib.Dec.{eqb, leb, ltb}
 use lib.ListN.{getD, set}
-use borrow.Author.Tests.{eq-eqb, ne-eqb, lt-ltb, le-ltb, le-leb, lt-leb, ltb-true, ltb-false, leb-true, leb-false}
+use borrow.Author.Tests.{eq-eqb, ne-eqb, lt-ltb, le-ltb, lt-leb, ltb-true, ltb-false, leb-true, leb-false}
 use Rattle.collector.specs.declared.state.State.{State}
 use Rattle.rules.specs.Parts.{Registers, Box, with-free, with-live, with-top}
 use Rattle.rules.specs.Box.{pointer, put-register, is-entry}

@@ -1,13 +1,12 @@
 -- What a step decides before it writes anything. Each of these is a part of a rule of crate rules, said by itself;
 -- that it decides that rule is proved with the code.
 use Prim.Native.Nat.{ℕ, _+_, _<_, _≤_}
-use mathlib.Core.Bool.{Bool, not, cond, _&&_, _||_}
+use mathlib.Core.Bool.{Bool, not, cond, _&&_}
 use lib.Dec.{leb, ltb, eqb}
-use Rattle.rules.specs.Limits.{register-count}
 use Rattle.rules.specs.Parts.{Box, with-top}
 use mathlib.Core.Path.{_≡_}
 use Rattle.collector.specs.declared.state.State.{State}
-use Rattle.rules.specs.Box.{Reply, reply, handle-of, names-tuple, register, marked, is-entry}
+use Rattle.rules.specs.Box.{Reply, reply, is-entry}
 use Rattle.rules.specs.Request.{is-register, no-room}
 use Rattle.rules.specs.Collector.{Found, unmarked, damaged, nothing, after, granted}
 

@@ -5,7 +5,7 @@ use crate::state::State;
 ghost use mathlib.Core.Bool.{Bool, true};
 ghost use mathlib.Core.List.{List, []};
 ghost use mathlib.Core.Path.{_≡_};
-ghost use Prim.Native.Nat.{ℕ, _+_, _<_, _≤_};
+ghost use Prim.Native.Nat.{ℕ, _+_, _<_};
 ghost use lib.ListN.{length};
 ghost use Rattle.rules.specs.Parts.{Registers, Box};
 ghost use Rattle.rules.specs.Box.{reply};

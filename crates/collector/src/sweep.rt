@@ -59,7 +59,7 @@ impl State {
         ensures { λ r. ⌜ ((q : Registers) (ads ss ls : List ℕ) (ds : List Bool) → with-grant (reply (boxed q (now (words .entry)) (now (flags .entry)) ads ss ls (now (marks .exit)) ds (r .state)) (r .answer)) ≡ keep-in-place (boxed q (now (words .entry)) (now (flags .entry)) ads ss ls (now (marks .entry)) ds self) (with-size size (boxed q (now (words .entry)) (now (flags .entry)) ads ss ls (now (marks .entry)) ds self))) ⌝ }
         ensures { λ r. ⌜ Grants (self .m) (self .h) (r .state) (r .answer) ⌝ }
     {
-        let i = self.tuple as usize;
+        let entry = self.tuple as usize;
         let after = self.src + size + 1;
         if after == self.top {
             if self.end_refused() {
@@ -68,24 +68,23 @@ impl State {
                     answer: 9,
                 };
             }
-            let last = self.tuple as usize;
-            marks[last] = false;
+            marks[entry] = false;
             self.size = size;
             return self.end_cycle();
         }
-        if after < self.m {
-            marks[i] = false;
-            self.size = size;
-            self.dest = after;
-            self = self.go_on(after, words, flags);
+        if self.m <= after {
             return Answered {
                 state: self,
-                answer: 30,
+                answer: 9,
             };
         }
+        marks[entry] = false;
+        self.size = size;
+        self.dest = after;
+        self = self.go_on(after, words, flags);
         Answered {
             state: self,
-            answer: 9,
+            answer: 30,
         }
     }
 

@@ -1,11 +1,8 @@
 // A word and its flag, apart from where it is kept.
-ghost use mathlib.Core.Bool.{Bool};
-ghost use mathlib.Core.List.{List};
 ghost use mathlib.Core.Path.{_≡_};
-ghost use Prim.Native.Nat.{ℕ, _<_};
-ghost use Rattle.rules.specs.Box.{handle-of, offset-of, names-tuple, register};
-ghost use Rattle.rules.specs.Parts.{Registers};
-ghost use Rattle.collector.specs.Boxed.{boxed, word-of};
+ghost use Prim.Native.Nat.{_<_};
+ghost use Rattle.rules.specs.Box.{handle-of, offset-of, names-tuple};
+ghost use Rattle.collector.specs.Boxed.{word-of};
 
 // 32 bits, and whether they are a pointer.
 pub struct Word {

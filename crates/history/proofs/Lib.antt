@@ -1,7 +1,6 @@
 -- The proof of demand 3, in reading order; docs/PROOF.md tells the argument.
 pub mod Lists
 pub mod Invariant
-pub mod View
 pub mod Marking
 pub mod Sweep
 pub mod Moving

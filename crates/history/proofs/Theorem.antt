@@ -1,10 +1,11 @@
 -- Demand 3: after an opening that answered 0 and any list of calls, all seven parts hold. What holds after any list of calls
 -- (`Good`) holds after the opening and is kept by each call; the seven parts are read off it. Assumes nothing.
 use Prim.Native.Nat.{ℕ, _+_, _*_, _≤_, _<_}
-use mathlib.Core.Bool.{false}
+use mathlib.Core.Bool.{false, true≢false}
 use mathlib.Core.List.{List, [], _∷_}
-use mathlib.Core.Logic.{_≢_, inl, inr}
-use mathlib.Core.Path.{_≡_, refl, sym, _∙_, subst}
+use mathlib.Core.Logic.{inl, inr}
+use mathlib.Core.Option.{some}
+use mathlib.Core.Path.{_≡_, refl, sym, _∙_, ap, subst}
 use native.Mathlib.Omega.{arith}
 use lib.ListN.{getD-replicate}
 use Rattle.rules.specs.Limits.{register-count}
@@ -15,8 +16,8 @@ use Rattle.rules.specs.Collector.{step}
 use Rattle.rules.specs.Run.{run}
 use Rattle.rules.specs.Open.{opened, opening}
 use Rattle.history.specs.Machine.{HWord, fresh, datum, register-of, Call, ask, single-step, run-for, feed}
-use Rattle.history.specs.Calls.{Pending, empty-log, World, start, log-step, after-request, after-step, after-run, play-call, play, CallInWidth, CallsInWidth}
-use Rattle.history.specs.Demand3.{Every, IfThere, InTime, Demand3, Demand3Claim}
+use Rattle.history.specs.Calls.{empty-log, World, start, log-step, after-request, after-step, after-run, play-call, play, CallInWidth, CallsInWidth}
+use Rattle.history.specs.Demand3.{Every, IfThere, IsThere, NotNine, PendingInTime, InTime, UnderWayBounded, CycleLogged, held-in, HeldAlike, HoldLogged, Demand3, Demand3Claim}
 use Rattle.history.proofs.Invariant.Statement.{Inv}
 use Rattle.history.proofs.Invariant.Resting.{resting, resting-plan, none-kept}
 use Rattle.history.proofs.Left.Bounds.{left-positive}
@@ -24,9 +25,9 @@ use Rattle.history.proofs.Left.Count.{left}
 use Rattle.history.proofs.Asking.Opening.{handles-below}
 use Rattle.history.proofs.Relation.Statement.{Match, Related, agree}
 use Rattle.history.proofs.Relation.Hold.{registers-fresh}
-use Rattle.history.proofs.Census.Directory.{rest-sum}
+use Rattle.history.proofs.Census.Directory.{reachable-not-gone, rest-sum}
 use Rattle.history.proofs.Invariant.Theorems.{opened-by, invariant-open, words-above-top}
-use Rattle.history.proofs.Good.Statement.{between, Waiting, nothing-held, one-held, Good}
+use Rattle.history.proofs.Good.Statement.{Cycling, between, under-way, Waiting, nothing-held, one-held, Good}
 use Rattle.history.proofs.Good.Requests.{GoodReply, good-request}
 use Rattle.history.proofs.Good.Steps as steps
 use Rattle.history.proofs.Good.Steps.{After, GoodRun, good-run}
@@ -64,7 +65,7 @@ opened-good m h v =
       eight = registers-fresh;
       cycling = between refl refl;
       waiting = nothing-held refl refl refl;
-      past = record { swept = tt; justly = tt; in-time = tt; bounded = tt };
+      past = record { swept = tt; justly = tt; in-time = tt; bounded = tt; ends-logged = refl; answers-logged = refl };
     }
 
 pub good-open : (m h : ℕ) (b : Box) → opening m h b .answer ≡ 0 → Good m h (opening m h b .box) fresh empty-log
@@ -81,20 +82,20 @@ good-open m h b e = subst (λ (r : Reply). Good m h (r .box) fresh empty-log) (s
 -- all of it, and no answer was 9
 pub record GoodWorld (m h : ℕ) (w : World) : Type 0 where
   pub good : Good m h (w .box) (w .history) (w .log)
-  pub never-nine : Every (λ (a : ℕ). a ≢ 9) (w .answers)
+  pub never-nine : Every NotNine (w .answers)
 
 -- a single step
 stepping : (m h : ℕ) (w : World) → GoodWorld m h w → After m h (w .box) (w .history) (w .log) (step (w .box)) → GoodWorld m h (after-step (step (w .box)) w)
 unfolding after-step feed
 stepping m h w k a = go a
   where
-    by : (x : ℕ) → step (w .box) .answer ≡ x → x ≢ 9
+    by : (x : ℕ) → step (w .box) .answer ≡ x → NotNine x
         → Good m h (step (w .box) .box) (feed single-step x (w .history)) (log-step (w .box) (step (w .box)) (w .history) (w .log))
         → GoodWorld m h (after-step (step (w .box)) w)
     by x e n g =
         record {
           good = subst (λ (y : ℕ). Good m h (step (w .box) .box) (feed single-step y (w .history)) (log-step (w .box) (step (w .box)) (w .history) (w .log))) (sym e) g;
-          never-nine = (λ z. n (sym e ∙ z), k .never-nine);
+          never-nine = (subst NotNine (sym e) n, k .never-nine);
         }
 
     go : After m h (w .box) (w .history) (w .log) (step (w .box)) → GoodWorld m h (after-step (step (w .box)) w)
@@ -119,19 +120,59 @@ unfolding play
 good-play m h [] w u k = k
 good-play m h (c ∷ cs) w u k = good-play m h cs (play-call c w) (u .1) (good-call m h w k c (u .0))
 
--- ---- the seven parts
+-- ---- the seven parts, and that the log misses nothing
 
 in-time : (m h : ℕ) (w : World) → Good m h (w .box) (w .history) (w .log) → InTime m w
 in-time m h w k = record { not-yet = go (k .waiting); by-then = k .past .in-time }
   where
-    go : Waiting (w .box) (k .ghosts) (w .history) (w .log .pending) → IfThere (λ (p : Pending). p .steps < 16 * m + 4) (w .log .pending)
-    go (nothing-held p x o) = subst (IfThere (λ (p : Pending). p .steps < 16 * m + 4)) (sym o) tt
+    go : Waiting (w .box) (k .ghosts) (w .history) (w .log .pending) → IfThere (PendingInTime m) (w .log .pending)
+    go (nothing-held p x o) = subst (IfThere (PendingInTime m)) (sym o) tt
     go (one-held p q x y o z) =
         let u : y .steps + left (w .box) (k .ghosts) ≤ 16 * w .box .m + 4 = z .in-time in
         let v : 1 ≤ left (w .box) (k .ghosts) = left-positive (w .box) (k .ghosts) (k .inv) in
         let e : w .box .m ≡ m = k .m-is in
-        let f : y .steps < 16 * m + 4 = omega arith in
-        subst (IfThere (λ (p : Pending). p .steps < 16 * m + 4)) (sym o) f
+        let f : PendingInTime m y = omega arith in
+        subst (IfThere (PendingInTime m)) (sym o) f
+
+under-way-bounded : (m h : ℕ) (w : World) → Good m h (w .box) (w .history) (w .log) → IfThere UnderWayBounded (w .log .cycle)
+under-way-bounded m h w k = go (k .cycling)
+  where
+    go : Cycling (w .box) (k .ghosts) (w .history) (k .number) (w .log .cycle) → IfThere UnderWayBounded (w .log .cycle)
+    go (between p o) = subst (IfThere UnderWayBounded) (sym o) tt
+    go (under-way p y o z) = subst (IfThere UnderWayBounded) (sym o) fewer
+      where
+        fewer : UnderWayBounded y
+        fewer q =
+            let u : y .steps + left (w .box) (k .ghosts) ≤ 8 * y .first-top + 2 = z .bounded q in
+            let v : 1 ≤ left (w .box) (k .ghosts) = left-positive (w .box) (k .ghosts) (k .inv) in
+            omega arith
+
+cycle-logged : (m h : ℕ) (w : World) → Good m h (w .box) (w .history) (w .log) → CycleLogged w
+cycle-logged m h w k = go (k .cycling)
+  where
+    go : Cycling (w .box) (k .ghosts) (w .history) (k .number) (w .log .cycle) → CycleLogged w
+    go (between p o) = (λ x. absurd (subst IsThere o x), λ n. absurd (n p))
+    go (under-way p y o z) = (λ x. p, λ n. subst IsThere (sym o) tt)
+
+hold-logged : (m h : ℕ) (w : World) → Good m h (w .box) (w .history) (w .log) → HoldLogged w
+hold-logged m h w k = go (k .waiting)
+  where
+    go : Waiting (w .box) (k .ghosts) (w .history) (w .log .pending) → HoldLogged w
+    go (nothing-held p x o) =
+        record {
+          box-holds = (λ y. absurd (subst IsThere o y), λ e. absurd (true≢false (sym e ∙ p)));
+          history-holds = (λ y. absurd (subst IsThere o y), λ y. absurd (subst IsThere x y));
+          same-hold = subst (IfThere (HeldAlike w)) (sym o) tt;
+        }
+    go (one-held p q x y o z) =
+        record {
+          box-holds = (λ u. p, λ e. subst IsThere (sym o) tt);
+          history-holds = (λ u. subst IsThere (sym x) tt, λ u. subst IsThere (sym o) tt);
+          same-hold = subst (IfThere (HeldAlike w)) (sym o) (x ∙ ap some (sym (z .asked-is)), z .asked-is ∙ held);
+        }
+      where
+        held : q ≡ held-in (w .box)
+        held = λ i. record { register = z .register-is i; size = z .size-is i; tag = z .tag-is i }
 
 seven-parts : (m h : ℕ) (w : World) → GoodWorld m h w → Demand3 m h w
 seven-parts m h w k =
@@ -139,11 +180,14 @@ seven-parts m h w k =
       agreement = agree (w .box) (k .good .ghosts .plan) (w .history) (w .log .given) (k .good .number) (k .good .related) (k .good .inv .contents);
       never-nine = k .never-nine;
       dead-tuples-gone = k .good .past .swept;
+      no-reachable-gone = λ i x. reachable-not-gone (w .box) (k .good .ghosts) (w .history) (w .log .given) (k .good .number) (k .good .inv) (k .good .related) i x;
       holds-justly-answered = k .good .past .justly;
       holds-in-time = in-time m h w (k .good);
       rest-sum = rest-sum w (k .good .ghosts) (k .good .number) (k .good .inv) (k .good .related);
-      zero-above-top = words-above-top (w .box) (k .good .ghosts) (k .good .inv);
+      zero-above-top = λ a l. words-above-top (w .box) (k .good .ghosts) (k .good .inv) a (omega arith);
       cycles-bounded = k .good .past .bounded;
+      cycle-under-way-bounded = under-way-bounded m h w (k .good);
+      log-complete = record { cycle-logged = cycle-logged m h w (k .good); hold-logged = hold-logged m h w (k .good); ends-logged = k .good .past .ends-logged; answers-logged = k .good .past .answers-logged };
     }
 
 -- ---- the theorem

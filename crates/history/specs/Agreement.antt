@@ -1,5 +1,5 @@
 -- Document 01, "The history machine": reachable, a tuple's handle, gone, agreement, and when tuples fit.
-use Prim.Native.Nat.{ℕ, zero, suc, _+_, _-_, _≤_, _<_}
+use Prim.Native.Nat.{ℕ, _+_, _-_, _≤_, _<_}
 use mathlib.Core.Bool.{true, false}
 use mathlib.Core.List.{List, [], _∷_}
 use mathlib.Core.Logic.{_≢_, _⊎_}
@@ -9,7 +9,7 @@ use Rattle.rules.specs.Limits.{register-count}
 use Rattle.rules.specs.Parts.{Word, Box}
 use Rattle.rules.specs.Box.{handle-of, offset-of, tag-of, register, size-of, link}
 use Rattle.rules.specs.Place.{place, read}
-use Rattle.history.specs.Machine.{HWord, datum, pointer-to, History, register-of, tuple-of, size-at, word-of, made}
+use Rattle.history.specs.Machine.{HWord, datum, pointer-to, History, register-of, tuple-of, size-at, word-of}
 
 -- reachable: from a register by pointers held in tuple words, nil left out
 pub data Reachable (m : History) : ℕ → Type 0 where

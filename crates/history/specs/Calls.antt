@@ -1,7 +1,8 @@
 -- A list of calls after an opening, played on the box and, with the answers alone, on the history machine. A log is kept
--- beside them, changed at each single step, also those inside a run: the handles given, the cycles and the holds.
-use Prim.Native.Nat.{ℕ, zero, suc, _+_, _<_, _^_}
-use mathlib.Core.Bool.{Bool, true, false, cond, _&&_}
+-- beside them, changed at each single step, also those inside a run: the handles given, the cycles, the holds and the steps'
+-- answers.
+use Prim.Native.Nat.{ℕ, zero, suc, _<_, _^_}
+use mathlib.Core.Bool.{Bool, true, false, cond}
 use mathlib.Core.List.{List, [], _∷_, _++_}
 use mathlib.Core.Option.{Option, none, some}
 use lib.Dec.{eqb}
@@ -25,9 +26,10 @@ pub record Cycle : Type 0 where
   pub steps : ℕ
   pub quiet : Bool
 
--- a cycle that has ended, with the box and the handles given as it ended
+-- a cycle that has ended: the answer of the step that ended it, and the box and the handles given as it ended
 pub record EndedCycle : Type 0 where
   pub cycle : Cycle
+  pub answer : ℕ
   pub box-then : Box
   pub given-then : List ℕ
 
@@ -49,6 +51,9 @@ pub record Log : Type 0 where
   pub ended : List EndedCycle
   pub pending : Option Pending
   pub answered : List Answered
+  -- the answers of all single steps, also those inside a run, the latest first. A single step that answers 9 is here too; the one
+  -- that a run stops before is none of its steps
+  pub step-answers : List ℕ
 
 pub record World : Type 0 where
   pub box : Box
@@ -58,7 +63,7 @@ pub record World : Type 0 where
   pub answers : List ℕ
 
 abbrev pub empty-log : Log
-empty-log = record { given = []; cycle = none; ended = []; pending = none; answered = [] }
+empty-log = record { given = []; cycle = none; ended = []; pending = none; answered = []; step-answers = [] }
 
 -- the world after an opening that answered 0
 abbrev pub start : Box → World
@@ -89,11 +94,11 @@ pend (some q) m = some (record { asked = q; history-then = m; steps = 0 })
 
 -- the request was carried out; b is the box after it
 unfoldable pub log-done : Request → Box → Log → Log
-log-done q b l = record { given = given-by q b (l .given); cycle = disturb (l .cycle); ended = l .ended; pending = l .pending; answered = l .answered }
+log-done q b l = record { given = given-by q b (l .given); cycle = disturb (l .cycle); ended = l .ended; pending = l .pending; answered = l .answered; step-answers = l .step-answers }
 
 -- the request was put on hold; m is the history machine after it
 unfoldable pub log-held : History → Log → Log
-log-held m l = record { given = l .given; cycle = l .cycle; ended = l .ended; pending = pend (m .hold) m; answered = l .answered }
+log-held m l = record { given = l .given; cycle = l .cycle; ended = l .ended; pending = pend (m .hold) m; answered = l .answered; step-answers = l .step-answers }
 
 unfoldable pub log-request : Request → ℕ → Box → History → Log → Log
 log-request q a b m l = cond (eqb a 0) (log-done q b l) (cond (eqb a 7) (log-held m l) l)
@@ -105,9 +110,9 @@ unfoldable pub cycle-step : Box → History → Option Cycle → Option Cycle
 cycle-step b m none = cond (eqb (b .collector .phase) 0) (some (record { started = m; first-top = b .top; steps = 1; quiet = true })) none
 cycle-step b m (some c) = some (record { started = c .started; first-top = c .first-top; steps = suc (c .steps); quiet = c .quiet })
 
-unfoldable pub end-log-cycle : Option Cycle → Box → List ℕ → List EndedCycle → List EndedCycle
-end-log-cycle none b given es = es
-end-log-cycle (some c) b given es = record { cycle = c; box-then = b; given-then = given } ∷ es
+unfoldable pub end-log-cycle : Option Cycle → ℕ → Box → List ℕ → List EndedCycle → List EndedCycle
+end-log-cycle none a b given es = es
+end-log-cycle (some c) a b given es = record { cycle = c; answer = a; box-then = b; given-then = given } ∷ es
 
 unfoldable pub wait-step : Option Pending → Option Pending
 wait-step none = none
@@ -122,29 +127,37 @@ unfoldable pub given-held : Option Pending → Box → List ℕ → List ℕ
 given-held none b given = given
 given-held (some p) b given = given ++ handle-of (register (p .asked .register) b) ∷ []
 
--- the parts of the log after a step with an answer: b is the box before it, c the box after it, m the history machine before
--- it. 30: the cycle goes on
+-- the parts of the log after a step with an answer, but for the answers: b is the box before it, c the box after it, m the
+-- history machine before it. 30: the cycle goes on
 unfoldable pub log-going : Box → History → Log → Log
-log-going b m l = record { given = l .given; cycle = cycle-step b m (l .cycle); ended = l .ended; pending = wait-step (l .pending); answered = l .answered }
+log-going b m l = record { given = l .given; cycle = cycle-step b m (l .cycle); ended = l .ended; pending = wait-step (l .pending); answered = l .answered; step-answers = l .step-answers }
 
 -- 31 and 33: the cycle has ended, and no request was answered
-unfoldable pub log-ended : Box → Box → History → Log → Log
-log-ended b c m l = record { given = l .given; cycle = none; ended = end-log-cycle (cycle-step b m (l .cycle)) c (l .given) (l .ended); pending = wait-step (l .pending); answered = l .answered }
+unfoldable pub log-ended : ℕ → Box → Box → History → Log → Log
+log-ended a b c m l = record { given = l .given; cycle = none; ended = end-log-cycle (cycle-step b m (l .cycle)) a c (l .given) (l .ended); pending = wait-step (l .pending); answered = l .answered; step-answers = l .step-answers }
 
 -- 32: it has ended, and the held request was granted
 unfoldable pub log-granted : Box → Box → History → Log → Log
-log-granted b c m l = record { given = given-held (l .pending) c (l .given); cycle = none; ended = end-log-cycle (cycle-step b m (l .cycle)) c (given-held (l .pending) c (l .given)) (l .ended); pending = none; answered = answer-hold (wait-step (l .pending)) 32 (l .answered) }
+log-granted b c m l = record { given = given-held (l .pending) c (l .given); cycle = none; ended = end-log-cycle (cycle-step b m (l .cycle)) 32 c (given-held (l .pending) c (l .given)) (l .ended); pending = none; answered = answer-hold (wait-step (l .pending)) 32 (l .answered); step-answers = l .step-answers }
 
 -- 8: it has ended, and the hold was dropped
 unfoldable pub log-dropped : Box → Box → History → Log → Log
-log-dropped b c m l = record { given = l .given; cycle = none; ended = end-log-cycle (cycle-step b m (l .cycle)) c (l .given) (l .ended); pending = none; answered = answer-hold (wait-step (l .pending)) 8 (l .answered) }
+log-dropped b c m l = record { given = l .given; cycle = none; ended = end-log-cycle (cycle-step b m (l .cycle)) 8 c (l .given) (l .ended); pending = none; answered = answer-hold (wait-step (l .pending)) 8 (l .answered); step-answers = l .step-answers }
 
-unfoldable pub log-step : Box → Reply → History → Log → Log
-log-step b r m l =
+-- by its answer; 9 leaves them as they were
+unfoldable pub log-parts : Box → Reply → History → Log → Log
+log-parts b r m l =
     cond (eqb (r .answer) 30) (log-going b m l)
     (cond (eqb (r .answer) 32) (log-granted b (r .box) m l)
     (cond (eqb (r .answer) 8) (log-dropped b (r .box) m l)
-    (cond (eqb (r .answer) 9) l (log-ended b (r .box) m l))))
+    (cond (eqb (r .answer) 9) l (log-ended (r .answer) b (r .box) m l))))
+
+abbrev pub with-step-answers : List ℕ → Log → Log
+with-step-answers xs l = record { given = l .given; cycle = l .cycle; ended = l .ended; pending = l .pending; answered = l .answered; step-answers = xs }
+
+-- the step's answer is noted whatever becomes of the other parts
+unfoldable pub log-step : Box → Reply → History → Log → Log
+log-step b r m l = with-step-answers (r .answer ∷ l .step-answers) (log-parts b r m l)
 
 -- the single steps that a run stands for. The history machine changes with none of them but the last, and there by the run's
 -- answer, after it

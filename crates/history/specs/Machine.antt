@@ -1,6 +1,6 @@
 -- Document 01, "The history machine": it never collects and never runs out. It is fed each call and its answer, nothing more.
 use Prim.Native.Nat.{ℕ, zero, suc, _+_}
-use mathlib.Core.Bool.{Bool, true, false, cond, _&&_}
+use mathlib.Core.Bool.{Bool, false, cond, _&&_}
 use mathlib.Core.List.{List, [], _∷_, _++_}
 use mathlib.Core.Option.{Option, none, some}
 use lib.Dec.{ltb, eqb}
@@ -68,15 +68,19 @@ with-hold q m = record { registers = m .registers; tuples = m .tuples; hold = q 
 unfoldable pub make : ℕ → ℕ → ℕ → History → History
 make r n tag m = record { registers = set (m .registers) r (pointer-to (suc (made m)) 0); tuples = m .tuples ++ record { tag = tag; words = replicate n (datum 0) } ∷ []; hold = m .hold }
 
--- word k of tuple number i becomes w
+-- word k of a tuple becomes w
 abbrev pub rewrite-tuple : HTuple → ℕ → HWord → HTuple
 rewrite-tuple t k w = record { tag = t .tag; words = set (t .words) k w }
 
+-- word k of tuple number i becomes w
 unfoldable pub set-word : ℕ → ℕ → HWord → List HTuple → List HTuple
 set-word i k w [] = []
 set-word zero k w (t ∷ ts) = t ∷ ts
 set-word (suc zero) k w (t ∷ ts) = rewrite-tuple t k w ∷ ts
 set-word (suc (suc i)) k w (t ∷ ts) = t ∷ set-word (suc i) k w ts
+
+abbrev pub stored-in : ℕ → ℕ → HWord → History → History
+stored-in i k w m = record { registers = m .registers; tuples = set-word i k w (m .tuples); hold = m .hold }
 
 -- ---- the kinds. What can't be done here changes nothing
 
@@ -90,10 +94,7 @@ load-from r (pointer-to i o) k m = cond (ltb (o + k) (size-at i m)) (put-in r (w
 
 unfoldable pub store-to : HWord → HWord → ℕ → History → History
 store-to w (datum v) k m = m
-store-to w (pointer-to i o) k m =
-    cond (ltb (o + k) (size-at i m))
-    (record { registers = m .registers; tuples = set-word i (o + k) w (m .tuples); hold = m .hold })
-    m
+store-to w (pointer-to i o) k m = cond (ltb (o + k) (size-at i m)) (stored-in i (o + k) w m) m
 
 unfoldable pub size-to : ℕ → HWord → History → History
 size-to r (datum v) m = m

@@ -1,6 +1,6 @@
 -- The lent arrays as a list of their numbers, and what is left when a rule's changed fields are put back: the struct that the rule
 -- left, and the registers as they were. By writing the arrays out. Assumes nothing.
-use Prim.Native.Nat.{ℕ, zero, suc, _+_, _<_}
+use Prim.Native.Nat.{ℕ, zero, suc, _<_}
 use mathlib.Core.Bool.{Bool, true, false, not, cond, Bool·beq, false≢true}
 use mathlib.Core.List.{List, [], _∷_}
 use mathlib.Core.Path.{_≡_, refl, sym, _∙_, ap}

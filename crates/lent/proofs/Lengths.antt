@@ -1,9 +1,8 @@
 -- What is asked of the columns is asked of their lengths. Assumes nothing.
 use Prim.Native.Nat.{ℕ}
-use mathlib.Core.Bool.{Bool, true, false, _&&_}
-use mathlib.Core.Path.{_≡_, refl}
+use mathlib.Core.Bool.{_&&_}
+use mathlib.Core.Path.{_≡_}
 use lib.Dec.{eqb}
-use lib.ListN.{length}
 use Rattle.rules.specs.Parts.{Box}
 use Rattle.rules.specs.Box.{lengths-are}
 use Rattle.lent.specs.Lent.{HasLengths}

@@ -3,15 +3,15 @@
 use Prim.Native.Nat.{ℕ, _+_, _*_}
 use mathlib.Core.Bool.{Bool, true, false}
 use mathlib.Core.List.{List}
-use mathlib.Core.Path.{_≡_, refl, sym, _∙_, ap}
+use mathlib.Core.Path.{_≡_, sym, _∙_, ap}
 use native.Mathlib.Omega.{arith}
 use lib.ListN.{length, set}
 use lib.Seq.{getD-set-same, getD-set-other, take-set-le}
-use Rattle.rules.specs.Parts.{Word, Registers, Box, with-held}
+use Rattle.rules.specs.Parts.{Registers, Box, with-held}
 use Rattle.rules.specs.Box.{pointer, put-register}
 use Rattle.rules.specs.Request.{new-tuple}
 use Rattle.rules.specs.Collector.{unheld, granted}
-use Rattle.rules.proofs.Kept.{outline, Keeps, same, tuple-keeps}
+use Rattle.rules.proofs.Kept.{outline, same, tuple-keeps}
 use Rattle.collector.specs.declared.state.State.{State}
 use Rattle.lent.specs.Lent.{state-of, registers-of, lent, put-in}
 

@@ -1,11 +1,11 @@
 -- The equation of a public call settles every number, switch and hold field: boxes made of two lent states are equal only where the
 -- arrays are. Field by field. Assumes nothing.
-use Prim.Native.Nat.{ℕ, zero, suc, _+_, _<_}
+use Prim.Native.Nat.{ℕ, zero, suc, _<_}
 use mathlib.Core.Bool.{Bool, false}
 use mathlib.Core.List.{List}
 use mathlib.Core.Path.{_≡_, sym, _∙_, ap}
 use native.Mathlib.Omega.{arith}
-use lib.ListN.{length, getD, drop, take}
+use lib.ListN.{length, getD}
 use lib.Seq.{ext-getD, getD-drop, getD-take}
 use Rattle.rules.specs.Parts.{Registers}
 use Rattle.collector.specs.declared.state.State.{State}

@@ -3,16 +3,14 @@
 --             14 to 21 the registers
 --   switches  0 to 7 whether the registers are pointers, 8 the copy's flag, 9 held, 10 begun
 --   hold      register, size, tag
-use Prim.Native.Nat.{ℕ, zero, suc}
-use mathlib.Core.Bool.{Bool, true, false, not, cond, _&&_, _||_, Bool·beq}
+use Prim.Native.Nat.{ℕ}
+use mathlib.Core.Bool.{Bool, false, cond, Bool·beq}
 use mathlib.Core.List.{List}
 use mathlib.Core.Path.{_≡_}
 use lib.Dec.{eqb}
 use lib.ListN.{length, getD, set, drop, take, replicate}
 use Rattle.rules.specs.Parts.{Word, Registers, Box}
-use Rattle.rules.specs.Box.{Reply, reply, handle-of, names-tuple, marked, is-entry}
-use Rattle.rules.specs.Collector.{step}
-use Rattle.rules.specs.Run.{Ran, ran, counted}
+use Rattle.rules.specs.Box.{Reply, reply}
 use Rattle.collector.specs.declared.state.State.{State}
 use Rattle.collector.specs.Boxed.{boxed}
 

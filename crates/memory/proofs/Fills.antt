@@ -2,9 +2,8 @@
 -- whole column at the end; and what the opening leaves. By the laws of stores, index by index. Assumes nothing.
 use Prim.Native.Nat.{ℕ, zero, suc, _+_, _<_, _≤_}
 use native.Mathlib.Omega.{arith}
-use native.Mathlib.Numerals.{add-one}
 use mathlib.Core.Bool.{Bool, true, false}
-use mathlib.Core.List.{List, [], _∷_}
+use mathlib.Core.List.{List}
 use mathlib.Core.Path.{_≡_, refl, sym, _∙_, ap}
 use lib.ListN.{length, getD, set, replicate, length-replicate, getD-replicate}
 use lib.Seq.{ext-getD, getD-set-same, getD-set-other}
@@ -14,7 +13,7 @@ use Rattle.rules.specs.Parts.{Box}
 use Rattle.lent.specs.Lent.{state-of, registers-of, lent, opened-numbers, opened-switches, opened-hold}
 use Rattle.rules.specs.Box.{reply, right-sizes}
 use Rattle.rules.specs.Open.{opened-link, opened-links, opened, opening}
-use Rattle.rules.proofs.Sizes.{Lengths}
+use Rattle.rules.specs.Answers.{Lengths}
 
 -- ---- a store more
 

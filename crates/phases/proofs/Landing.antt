@@ -7,7 +7,7 @@ use lib.Dec.{eqb}
 use Rattle.rules.specs.Parts.{Registers, Box}
 use Rattle.rules.specs.Box.{Reply, reply}
 use Rattle.rules.specs.Collector.{granted}
-use Rattle.rules.proofs.Kept.{Outline, outline, Keeps, same, granted-keeps}
+use Rattle.rules.proofs.Kept.{outline, Keeps, same, granted-keeps}
 use Rattle.collector.specs.declared.state.State.{State}
 use Rattle.collector.specs.Decide.{with-grant, Grants}
 

@@ -6,9 +6,9 @@ use mathlib.Core.Path.{_≡_, refl, sym, ap, _∙_}
 use native.Mathlib.Omega.{arith}
 use Rattle.rules.specs.Parts.{Word, Box}
 use Rattle.rules.specs.Box.{handle-of, names-tuple, register, marked, is-entry}
-use Rattle.rules.specs.Collector.{Found, unmarked, damaged, nothing, look-register, look-from}
+use Rattle.rules.specs.Collector.{Found, unmarked, damaged, look-register, look-from}
 use Rattle.collector.specs.Decide.{found-as}
-use Rattle.collector.proofs.Entries.{entry, entry-nil, entry-far}
+use Rattle.collector.proofs.Entries.{entry, entry-far}
 use Rattle.phases.specs.Passing.{passed-over}
 
 -- ---- one register's word

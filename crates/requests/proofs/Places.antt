@@ -9,7 +9,7 @@ use Rattle.requests.specs.declared.place.Place as code-place
 use Rattle.requests.specs.declared.place.Place.the-variants.{Copy, At}
 use Rattle.rules.specs.Parts.{Word, Box, with-copy}
 use Rattle.rules.specs.Box.{word-at, put, address}
-use Rattle.rules.specs.Place.{Place, copy-place, at, being-moved, place, in-memory, read, write}
+use Rattle.rules.specs.Place.{copy-place, at, being-moved, place, in-memory, read, write}
 use Rattle.requests.specs.Found.{place-of, Within}
 use native.Mathlib.Omega.{arith}
 

@@ -3,14 +3,14 @@
 -- written keeps its length. Assumes nothing.
 use Prim.Native.Nat.{ℕ, zero, suc, _+_, _≤_}
 use mathlib.Core.Bool.{Bool, true, false, not, cond, _&&_, _||_}
-use mathlib.Core.Path.{_≡_, refl, sym, _∙_, ap, ap₂}
+use mathlib.Core.Path.{_≡_, refl, _∙_, ap, ap₂}
 use native.Mathlib.Omega.{arith}
 use borrow.Author.Tests.{le-leb, leb-true}
 use lib.Dec.{leb, ltb, eqb}
 use lib.ListN.{length, length-set}
-use Rattle.rules.specs.Limits.{register-count, last-phase, in-range}
+use Rattle.rules.specs.Limits.{register-count, in-range}
 use Rattle.rules.specs.Parts.{Word, Box, with-live, with-next, with-dest, with-size, with-top, with-free, with-index, with-phase, with-current, with-begun, with-tuple}
-use Rattle.rules.specs.Box.{Reply, reply, data-word, put, put-register, pointer, control-word, word-at, handle-of, names-tuple, size-of, marked, deep, set-address, set-size, set-link, set-mark, set-deep, is-entry, lengths-are, right-sizes, sound}
+use Rattle.rules.specs.Box.{Reply, reply, data-word, put, control-word, word-at, handle-of, names-tuple, size-of, marked, deep, set-address, set-size, set-link, set-mark, set-deep, is-entry, lengths-are, right-sizes, sound}
 use Rattle.rules.specs.Place.{Place, copy-place, at, can-shade, list-next, mark-live, shade, write}
 use Rattle.rules.specs.Request.{is-register, no-room, collecting, can-make, new-entry, take-room, new-tuple, shades, shaded-first, deepened, store-word}
 use Rattle.rules.specs.Collector.{to-phase, after, at-rest, unheld, granted, try-held, settle, end-cycle, note-begun, rest, scan, Found, unmarked, damaged, nothing, look-from, begin-sweep, end-marking, mark-root, scan-next, mark-next, scan-word, scan-current, mark-scan, mark-add, go-on, keep-in-place, start-move, free-tuple, start-zero, release, sweep-tuple, sweep-scan, leave-tuple, settle-move, finish-move, copy-word, sweep-read, sweep-clear, write-copy, sweep-write, zero-word, sweep-zero, rule-of, step}
@@ -72,9 +72,6 @@ module _ (b c : Box) (k : Keeps b c) where
 
   deep-keeps : (h : ℕ) (t : Bool) → Keeps b (set-deep h t c)
   deep-keeps h t = record { outline-same = simp length-set (k .outline-same); phase-low = k .phase-low }
-
-  register-keeps : (r : ℕ) (w : Word) → Keeps b (put-register r w c)
-  register-keeps r w = record { outline-same = k .outline-same; phase-low = k .phase-low }
 
 -- ---- shading
 

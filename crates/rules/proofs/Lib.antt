@@ -2,3 +2,6 @@ pub mod Sizes
 pub mod AsFound
 pub mod Kept
 pub mod Runs
+pub mod View
+pub mod Table
+pub mod Demand1

@@ -1,17 +1,15 @@
 -- Laws of a run with a budget: by its first step, the course of each answer, and that the steps it reports are the single steps
 -- between its first state and its last. Assumes nothing.
-use Prim.Native.Nat.{ℕ, zero, suc, _+_, _-_, _≤_, _<_}
+use Prim.Native.Nat.{ℕ, zero, suc}
 use mathlib.Core.Bool.{Bool, true, false, cond, _||_}
 use mathlib.Core.Logic.{_≢_}
-use mathlib.Core.Path.{_≡_, refl, sym, _∙_, ap}
-use native.Mathlib.Omega.{arith}
-use borrow.Author.Tests.{eq-eqb, eqb-true, ne-eqb}
+use mathlib.Core.Path.{_≡_, refl, sym, ap}
+use borrow.Author.Tests.{eq-eqb, ne-eqb}
 use lib.Dec.{eqb}
 use Rattle.rules.specs.Parts.{Box}
-use Rattle.rules.specs.Box.{Reply, reply, sound}
+use Rattle.rules.specs.Box.{sound}
 use Rattle.rules.specs.Collector.{step}
 use Rattle.rules.specs.Run.{Ran, ran, counted, Course, goes-on, stops, refuses, course, run-on, run, after-steps}
-use Rattle.rules.proofs.AsFound.{step-found}
 
 -- ---- a run, by its first step
 

@@ -2,15 +2,15 @@
 -- the definition by the tests it is made of. Assumes nothing.
 use Prim.Native.Nat.{ℕ, _≤_, _<_}
 use native.Mathlib.Omega.{arith}
-use mathlib.Core.Bool.{Bool, true, false, _&&_}
-use mathlib.Core.List.{List}
-use mathlib.Core.Path.{_≡_, refl}
-use lib.Dec.{leb, ltb, eqb}
+use mathlib.Core.Bool.{Bool, true, false, _&&_, true≢false}
+use mathlib.Core.Path.{_≡_, refl, sym, _∙_}
+use lib.Dec.{leb, eqb}
 use lib.ListN.{length}
-use borrow.Author.Tests.{eq-eqb, ne-eqb, leb-true, eqb-true}
-use Rattle.rules.specs.Limits.{in-range}
+use borrow.Author.Tests.{eq-eqb, leb-true, le-leb, eqb-true}
+use Rattle.rules.specs.Limits.{least-words, most-words, least-entries, most-entries, last-phase, in-range}
 use Rattle.rules.specs.Parts.{Box}
 use Rattle.rules.specs.Box.{lengths-are, right-sizes, sound}
+use Rattle.rules.specs.Answers.{Lengths, RightSizes, Right}
 
 -- ---- conjunctions
 
@@ -37,16 +37,6 @@ split7 a b c d e f g p =
     (q .0, q .1, q .2, q .3, and-right (a && b && c && d) e p5, and-right (a && b && c && d && e) f p6, and-right (a && b && c && d && e && f) g p)
 
 -- ---- lengths
-
--- the columns have the lengths m and h
-pub record Lengths (m h : ℕ) (b : Box) : Type 0 where
-  pub words : length (b .memory .words) ≡ m
-  pub flags : length (b .memory .flags) ≡ m
-  pub addresses : length (b .directory .addresses) ≡ h
-  pub sizes : length (b .directory .sizes) ≡ h
-  pub links : length (b .directory .links) ≡ h
-  pub marks : length (b .directory .marks) ≡ h
-  pub deeps : length (b .directory .deeps) ≡ h
 
 pub lengths-hold : (m h : ℕ) (b : Box) → lengths-are m h b ≡ true → Lengths m h b
 unfolding lengths-are
@@ -94,3 +84,35 @@ sound-lengths b p = sizes-lengths _ _ b (and-left _ _ p)
 pub sound-phase : (b : Box) → sound b ≡ true → b .collector .phase ≤ 8
 unfolding sound
 sound-phase b p = leb-true _ _ (and-right (right-sizes (b .m) (b .h) b) _ p)
+
+-- ---- the tests, as document 01's table of answers says them
+
+pub sizes-right : (m h : ℕ) (b : Box) → right-sizes m h b ≡ true → RightSizes m h b
+unfolding right-sizes in-range
+sizes-right m h b p =
+    let q = split4 (leb least-words m) (leb m most-words) (leb least-entries h) (leb h most-entries) (and-left _ _ p) in
+    record {
+      words-in-range = (leb-true _ _ (q .0), leb-true _ _ (q .1));
+      entries-in-range = (leb-true _ _ (q .2), leb-true _ _ (q .3));
+      lengths = sizes-lengths m h b p;
+    }
+
+right-sizes-true : (m h : ℕ) (b : Box) → RightSizes m h b → right-sizes m h b ≡ true
+unfolding right-sizes in-range lengths-are
+right-sizes-true m h b r =
+    let l : Lengths m h b = r .lengths in
+    simp (le-leb least-words m (r .words-in-range .0), le-leb m most-words (r .words-in-range .1), le-leb least-entries h (r .entries-in-range .0), le-leb h most-entries (r .entries-in-range .1), eq-eqb (length (b .memory .words)) m (l .words), eq-eqb (length (b .memory .flags)) m (l .flags), eq-eqb (length (b .directory .addresses)) h (l .addresses), eq-eqb (length (b .directory .sizes)) h (l .sizes), eq-eqb (length (b .directory .links)) h (l .links), eq-eqb (length (b .directory .marks)) h (l .marks), eq-eqb (length (b .directory .deeps)) h (l .deeps))
+
+pub sizes-wrong : (m h : ℕ) (b : Box) → right-sizes m h b ≡ false → ¬ RightSizes m h b
+sizes-wrong m h b p r = true≢false (sym (right-sizes-true m h b r) ∙ p)
+
+pub sound-right : (b : Box) → sound b ≡ true → Right b
+unfolding sound
+sound-right b p = record { right-sizes = sizes-right (b .m) (b .h) b (and-left _ _ p); right-phase = sound-phase b p }
+
+pub unsound-wrong : (b : Box) → sound b ≡ false → ¬ Right b
+unfolding sound
+unsound-wrong b p r = true≢false (sym all ∙ p)
+  where
+    all : sound b ≡ true
+    all = simp (right-sizes-true (b .m) (b .h) b (r .right-sizes), le-leb (b .collector .phase) last-phase (r .right-phase))

@@ -1,12 +1,13 @@
 -- Document 01, "Bench cases": the twelve marked P, as one table of data, and one theorem over it.
--- The box is opened 16, 4. A case is what is done, with the answers that the document gives, and what is then seen.
-use Prim.Native.Nat.{ℕ, zero, suc, _+_}
-use mathlib.Core.Bool.{Bool, true, false, not, cond, _&&_}
+-- The box is opened 16, 4. A case is what is done after an opening that answered 0, with the answers that the document gives, and what is
+-- then seen.
+use Prim.Native.Nat.{ℕ, zero, suc}
+use mathlib.Core.Bool.{Bool, true, false, not, cond, _&&_, Bool·beq}
 use mathlib.Core.List.{List, [], _∷_, _++_}
 use mathlib.Core.Option.{Option, none, some}
 use mathlib.Core.Path.{_≡_, refl}
 use lib.Dec.{eqb}
-use lib.ListN.{drop}
+use lib.ListN.{drop, replicate}
 use Rattle.rules.specs.declared.kinds.Request.{Request}
 use Rattle.rules.specs.declared.kinds.Request.the-variants.{Setd, Getm, Load, Store}
 use Rattle.rules.specs.Limits.{in-range}
@@ -15,7 +16,7 @@ use Rattle.rules.specs.Box.{Reply, data-word, pointer, word-at, register
 use Rattle.rules.specs.Place.{being-moved, place, in-memory, read, write, can-shade, list-next, mark-live, shade}
 use Rattle.rules.specs.Request.{no-room, collecting, can-make, new-entry, take-room, new-tuple, put-on-hold, at-tuple, word-number, at-word, advance, getm, load, shades, shaded-first, deepened, store-word, store, size, tag-at, tag, same-word, same, registers-right, carry-out, request}
 use Rattle.rules.specs.Collector.{at-rest, unheld, granted, try-held, settle, end-cycle, note-begun, rest, scan, look-register, look-from, begin-sweep, end-marking, mark-root, scan-next, mark-next, scan-word, scan-current, mark-scan, mark-add, go-on, keep-in-place, start-move, free-tuple, start-zero, release, sweep-tuple, sweep-scan, leave-tuple, settle-move, finish-move, copy-word, sweep-read, sweep-clear, write-copy, sweep-write, zero-word, sweep-zero, rule-of, step}
-use Rattle.rules.specs.Open.{opened-link, opened-links, opened}
+use Rattle.rules.specs.Open.{opened-link, opened-links, opened, opening}
 
 -- ---- what is done
 
@@ -47,6 +48,8 @@ pub data Seen : Type 0 where
   lies-at : ℕ → ℕ → Seen
   -- the free list, in order
   free-is : List ℕ → Seen
+  -- whether a request is held
+  held-is : Bool → Seen
 
 pub record Case : Type 0 where
   -- its number in document 01
@@ -80,9 +83,9 @@ table =
     ∷ record { number = 7; acts = before5 ++ steps 12 ∷ ask (Setd 3 5) 0 ∷ ask (Store 3 1 0) 0 ∷ cycle 2 31; seen = word-is 1 (data-word 5) ∷ [] }
     ∷ record { number = 8; acts = cycle 2 31; seen = top-is 0 ∷ [] }
     ∷ record { number = 9; acts = acts2 ++ ask (Getm 2 10 0) 0 ∷ []; seen = top-is 16 ∷ [] }
-    ∷ record { number = 10; acts = acts2 ++ ask (Getm 2 11 0) 7 ∷ within 41 8 ∷ []; seen = top-is 5 ∷ [] }
+    ∷ record { number = 10; acts = acts2 ++ ask (Getm 2 11 0) 7 ∷ within 41 8 ∷ []; seen = top-is 5 ∷ held-is false ∷ [] }
     ∷ record { number = 11; acts = acts2 ++ ask (Getm 2 16 0) 5 ∷ []; seen = top-is 5 ∷ [] }
-    ∷ record { number = 12; acts = acts1 ++ ask (Load 1 0 1) 0 ∷ ask (Load 1 0 2) 3 ∷ []; seen = register-is 1 (data-word 0) ∷ [] }
+    ∷ record { number = 12; acts = acts1 ++ ask (Setd 1 0xABCD) 0 ∷ ask (Load 1 0 1) 0 ∷ ask (Load 1 0 2) 3 ∷ []; seen = register-is 1 (data-word 0) ∷ [] }
     ∷ []
 
 -- ---- one check over it
@@ -131,14 +134,30 @@ sees (zero-from a) b = all-zero (drop a (b .memory .words)) (drop a (b .memory .
 sees (register-is r w) b = same-word (register r b) w
 sees (lies-at h a) b = eqb (address h b) a
 sees (free-is hs) b = is-chain (b .free) hs b
+sees (held-is t) b = Bool·beq (b .hold .held) t
 
 abbrev pub sees-all : List Seen → Option Box → Bool
 sees-all ss none = false
 sees-all [] (some b) = true
 sees-all (s ∷ ss) (some b) = sees s b && sees-all ss (some b)
 
+-- what is lent to the opening: 16 words and 4 entries of anything but what it leaves there
+abbrev pub unopened : Box
+unopened =
+    record {
+      m = 7;
+      h = 7;
+      top = 7;
+      free = 7;
+      memory = record { words = replicate 16 7; flags = replicate 16 true };
+      directory = record { addresses = replicate 4 7; sizes = replicate 4 7; links = replicate 4 7; marks = replicate 4 true; deeps = replicate 4 true };
+      registers = record { words = replicate 8 7; flags = replicate 8 true };
+      collector = record { phase = 7; live = 7; current = 7; next = 7; src = 7; dest = 7; tuple = 7; size = 7; index = 7; copy = record { bits = 7; flag = true } };
+      hold = record { held = true; begun = true; register = 7; size = 7; tag = 7 };
+    }
+
 abbrev pub holds : Case → Bool
-holds c = sees-all (c .seen) (play (c .acts) (opened 16 4))
+holds c = sees-all (c .seen) (bind (answering 0 (opening 16 4 unopened)) (play (c .acts)))
 
 abbrev pub all-hold : List Case → Bool
 all-hold [] = true
@@ -146,5 +165,5 @@ all-hold (c ∷ cs) = holds c && all-hold cs
 
 -- all twelve
 pub every-case : all-hold table ≡ true
-unfolding in-range is-entry lengths-are right-sizes sound being-moved place in-memory read write can-shade list-next mark-live shade no-room collecting can-make new-entry take-room new-tuple put-on-hold at-tuple word-number at-word advance getm load shades shaded-first deepened store-word store size tag-at tag same-word same registers-right carry-out request at-rest unheld granted try-held settle end-cycle note-begun rest scan look-register look-from begin-sweep end-marking mark-root scan-next mark-next scan-word scan-current mark-scan mark-add go-on keep-in-place start-move free-tuple start-zero release sweep-tuple sweep-scan leave-tuple settle-move finish-move copy-word sweep-read sweep-clear write-copy sweep-write zero-word sweep-zero rule-of step opened-link opened-links opened
+unfolding in-range is-entry lengths-are right-sizes sound being-moved place in-memory read write can-shade list-next mark-live shade no-room collecting can-make new-entry take-room new-tuple put-on-hold at-tuple word-number at-word advance getm load shades shaded-first deepened store-word store size tag-at tag same-word same registers-right carry-out request at-rest unheld granted try-held settle end-cycle note-begun rest scan look-register look-from begin-sweep end-marking mark-root scan-next mark-next scan-word scan-current mark-scan mark-add go-on keep-in-place start-move free-tuple start-zero release sweep-tuple sweep-scan leave-tuple settle-move finish-move copy-word sweep-read sweep-clear write-copy sweep-write zero-word sweep-zero rule-of step opened-link opened-links opened opening
 every-case = refl

@@ -1,7 +1,7 @@
 -- Document 01, "Collector steps": the nine rules, one definition each, and the end of a cycle. A rule tests all that it
 -- looks up, touches and forms before it changes anything, and answers 9 with the box as found where a test fails.
 use Prim.Native.Nat.{ℕ, zero, suc, _+_, _-_}
-use mathlib.Core.Bool.{Bool, true, false, not, cond, _&&_, _||_}
+use mathlib.Core.Bool.{true, false, cond, _&&_}
 use lib.Dec.{leb, ltb, eqb}
 use Rattle.rules.specs.Limits.{register-count}
 use Rattle.rules.specs.Parts.{Box, with-begun, with-copy, with-current, with-dest, with-free, with-held, with-index, with-live, with-next, with-phase, with-size, with-src, with-top, with-tuple}

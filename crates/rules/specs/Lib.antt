@@ -7,3 +7,5 @@ pub mod Collector
 pub mod Run
 pub mod Open
 pub mod Cases
+pub mod Answers
+pub mod Demand1

@@ -1,9 +1,9 @@
 -- Document 01, "Run with a budget".
 use Prim.Native.Nat.{ℕ, zero, suc}
-use mathlib.Core.Bool.{Bool, true, false, cond, _||_}
+use mathlib.Core.Bool.{cond, _||_}
 use lib.Dec.{eqb}
 use Rattle.rules.specs.Parts.{Box}
-use Rattle.rules.specs.Box.{Reply, sound}
+use Rattle.rules.specs.Box.{sound}
 use Rattle.rules.specs.Collector.{step}
 
 -- what a run leaves, its answer, and how many single steps lead there

@@ -1,17 +1,16 @@
 -- One step on the lent parts: the rule of the phase, and the tuple that a granted request still needs. What every rule keeps carries
 -- the tests that are made once over the whole of a run. Assumes nothing.
-use Prim.Native.Nat.{ℕ, zero, suc, _+_, _≤_, _<_}
+use Prim.Native.Nat.{ℕ, zero, suc}
 use mathlib.Core.Bool.{Bool, true, false, cond}
 use mathlib.Core.Path.{_≡_, refl, sym, ap, _∙_, subst}
-use native.Mathlib.Omega.{arith}
 use lib.Dec.{eqb}
-use lib.ListN.{length}
 use Rattle.rules.specs.Parts.{Box}
 use Rattle.rules.specs.Box.{Reply, reply, sound}
 use Rattle.rules.specs.Collector.{granted, rule-of, step}
 use Rattle.rules.specs.Run.{Ran, ran, counted}
-use Rattle.rules.proofs.Sizes.{Lengths, Ranges}
-use Rattle.rules.proofs.Kept.{Outline, outline, Keeps, rule-keeps, step-keeps, step-sound}
+use Rattle.rules.specs.Answers.{Lengths}
+use Rattle.rules.proofs.Sizes.{Ranges}
+use Rattle.rules.proofs.Kept.{Outline, outline, rule-keeps, step-keeps, step-sound}
 use Rattle.collector.specs.Decide.{with-grant}
 use Rattle.collector.proofs.Granting.{ungranted}
 use Rattle.phases.proofs.Landing.{grant-outline}

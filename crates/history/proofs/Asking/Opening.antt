@@ -16,7 +16,7 @@ use Rattle.rules.specs.Open.{opened, opened-link, opened-links}
 use Rattle.history.specs.Agreement.{Member, Distinct}
 use Rattle.history.proofs.Invariant.Statement.{Chain, Inv, Shape, Handles, Layout, Contents, Zero, Marks, Stage, rooms, marked-rooms}
 use Rattle.history.proofs.Invariant.Resting.{resting-plan, resting, none-kept}
-use Rattle.history.proofs.View.Tests.{and-left, and-right}
+use Rattle.rules.proofs.Sizes.{and-left, and-right}
 
 -- ---- n handles from i on
 

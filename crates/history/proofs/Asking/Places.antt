@@ -17,7 +17,7 @@ use Rattle.history.specs.Agreement.{Member}
 use Rattle.history.proofs.Invariant.Statement.{Ghosts, Inv, word, rooms, Laid, Kept, settled, moving, unswept, surviving, Layout, Move, Stage, at-rest, finding, scanning, adding, sweeping, reading, clearing, writing, zeroing}
 use Rattle.history.proofs.Lists.Handles.{Parts, parts}
 use Rattle.history.proofs.Lists.Laid.{laid-le, laid-rooms, laid-bounds, laid-apart, rooms-one, marked-rooms-le}
-use Rattle.history.proofs.View.Tests.{and-false}
+use Rattle.rules.proofs.View.Tests.{and-false}
 
 -- ---- the laws of a place
 

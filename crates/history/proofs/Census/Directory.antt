@@ -1,6 +1,6 @@
 -- The directory at rest, counted in the history machine: the tuples in it are those whose number their handle has; top is the room
 -- that they take; every other tuple made is gone. So the sum in Rest, and whether a held request fits. Assumes nothing.
-use Prim.Native.Nat.{ℕ, suc, _+_, _-_, _≤_, _<_}
+use Prim.Native.Nat.{ℕ, suc, _+_, _≤_, _<_}
 use mathlib.Core.List.{List, [], _∷_, _++_}
 use mathlib.Core.Logic.{_≢_, _⊎_, inl, inr}
 use mathlib.Core.Path.{_≡_, refl, sym, _∙_, ap, ap₂, subst}
@@ -12,7 +12,7 @@ use Rattle.history.specs.Machine.{History, size-at, made}
 use Rattle.history.specs.Agreement.{Reachable, handle-at, Listed, Gone, in-free-list, given-later, Member, Distinct, Lists, room, Fits}
 use Rattle.history.specs.Calls.{World}
 use Rattle.history.specs.Demand3.{IsNumber, RestSum}
-use Rattle.history.proofs.Invariant.Statement.{Ghosts, Inv, rooms, unswept, Unswept}
+use Rattle.history.proofs.Invariant.Statement.{Ghosts, Inv, Kept, settled, moving, unswept, surviving, rooms, Unswept}
 use Rattle.history.proofs.Lists.Handles.{Parts, parts, Among, among, among-done, among-mid, among-ahead, among-free, among-member}
 use Rattle.history.proofs.Lists.Chain.{Headed, no-head, head-first, chain-headed, chain-empty}
 use Rattle.history.proofs.Lists.Laid.{laid-rooms}
@@ -59,6 +59,42 @@ numbers-room f b m (x ∷ hs) e =
     let q : size-of x b ≡ size-at (f x) m = e x (inl refl) in
     let r : room (numbers f hs) m ≡ rooms b hs = numbers-room f b m hs (λ h y. e h (inr y)) in
     omega arith
+
+-- ---- in any phase, what is kept is not gone
+
+kept-not-free : (b : Box) (g : Ghosts) → Inv b g → (h : ℕ) → Kept b (g .plan) h → ¬ Member h (g .free)
+kept-not-free b g v h = go
+  where
+    split : Parts (g .plan .done) (g .plan .mid) (g .plan .ahead) (g .free)
+    split = parts (g .plan .done) (g .plan .mid) (g .plan .ahead) (g .free) (v .handles .distinct)
+
+    go : Kept b (g .plan) h → ¬ Member h (g .free)
+    go (settled x) = split .done-free h x
+    go (moving x) = split .mid-free h x
+    go (unswept x l) = split .ahead-free h x
+    go (surviving x l) = split .ahead-free h x
+
+module _ (b : Box) (g : Ghosts) (m : History) (given : List ℕ) (number : ℕ → ℕ) (v : Inv b g) (s : Related b (g .plan) m given number) where
+  -- a kept handle is not free, and its number is the last tuple that it was given to
+  pub kept-not-gone : (h : ℕ) → Kept b (g .plan) h → ¬ Gone b given (number h)
+  kept-not-gone h k = go
+    where
+      o : Holds b m given number h
+      o = s .kept-hold h k
+
+      go : ¬ Gone b given (number h)
+      go (in-free-list l) = kept-not-free b g v h k (listed-free b g v h (subst (λ (y : ℕ). Listed b y (b .free)) (o .handle-given) l))
+      go (given-later j l u q) =
+          let a : length given ≡ made m = s .all-given in
+          let n : 1 ≤ number h = o .number-made .0 in
+          let w : j ≤ number (handle-at j given) = s .number-latest j (omega arith) (omega arith) in
+          let z : number (handle-at j given) ≡ number h = ap number (q ∙ o .handle-given) in
+          omega arith
+
+  pub reachable-not-gone : (i : ℕ) → Reachable m i → ¬ Gone b given i
+  reachable-not-gone i x =
+      let k : Keeps b (g .plan) number i = reached b (g .plan) m given number s (v .contents) i x in
+      subst (λ (y : ℕ). ¬ Gone b given y) (k .numbered) (kept-not-gone (k .handle) (k .kept))
 
 -- ---- the directory at rest
 
@@ -132,22 +168,9 @@ module _ (b : Box) (g : Ghosts) (m : History) (given : List ℕ) (number : ℕ �
   -- and one that is in it is not
   alive-not-gone : (i : ℕ) → Member i alive → ¬ Gone b given i
   unfolding alive
-  alive-not-gone i x = go
-    where
-      r : (h : ℕ) × Member h (g .plan .ahead) × (number h ≡ i)
-      r = numbers-of number (g .plan .ahead) i x
-
-      back : handle-at i given ≡ r .0
-      back = ap (λ (y : ℕ). handle-at y given) (sym (r .2)) ∙ holds (r .0) (r .1) .handle-given
-
-      go : ¬ Gone b given i
-      go (in-free-list l) = split .ahead-free (r .0) (r .1) (listed-free b g v (r .0) (subst (λ (y : ℕ). Listed b y (b .free)) back l))
-      go (given-later j l u q) =
-          let a : length given ≡ made m = s .all-given in
-          let n : (1 ≤ i) × (i ≤ made m) = alive-made i x in
-          let w : j ≤ number (handle-at j given) = s .number-latest j (omega arith) (omega arith) in
-          let z : number (handle-at j given) ≡ i = ap number (q ∙ back) ∙ r .2 in
-          omega arith
+  alive-not-gone i x =
+      let r = numbers-of number (g .plan .ahead) i x in
+      subst (λ (y : ℕ). ¬ Gone b given y) (r .2) (kept-not-gone b g m given number v s (r .0) (unswept (r .1) (omega arith)))
 
   -- the tuples made and no longer in the directory
   unfoldable pub dead : List ℕ
@@ -230,13 +253,11 @@ module _ (b : Box) (g : Ghosts) (m : History) (given : List ℕ) (number : ℕ �
           let e₂ : length (numbers number (g .plan .ahead)) ≡ length (g .plan .ahead) = numbers-length number (g .plan .ahead) in
           let c : suc (length (g .plan .ahead) + length (g .free)) ≡ b .h = free-count in
           let o : length (g .free) ≡ 0 = free-none z in
-          let u : length is + 1 ≤ b .h - 1 = f .handles-fit in
-          omega arith
+          omega (arith, f .handles-fit)
       go (inr z) =
           let r : room (numbers number (g .plan .ahead)) m ≤ room is m = sublist-room is (numbers number (g .plan .ahead)) m alive-distinct w in
           let e₁ : room (numbers number (g .plan .ahead)) m ≡ b .top = alive-room in
-          let u : room is m + (n + 1) ≤ b .m = f .words-fit in
-          omega arith
+          omega (arith, f .words-fit)
 
 pub rest-sum : (w : World) (g : Ghosts) (number : ℕ → ℕ) → Inv (w .box) g → Related (w .box) (g .plan) (w .history) (w .log .given) number
     → w .box .collector .phase ≡ 0 → RestSum w
@@ -246,5 +267,5 @@ rest-sum w g number v s e =
       are-made = all-made-lists (w .box) g (w .history) (w .log .given) number v s e;
       gone = dead (w .box) g (w .history) (w .log .given) number v s e;
       are-gone = dead-lists (w .box) g (w .history) (w .log .given) number v s e;
-      top-is = top-sum (w .box) g (w .history) (w .log .given) number v s e;
+      top-is = omega (arith, top-sum (w .box) g (w .history) (w .log .given) number v s e);
     }

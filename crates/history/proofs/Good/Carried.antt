@@ -16,10 +16,11 @@ use Rattle.rules.specs.Parts.{Word, Box}
 use Rattle.rules.specs.Box.{handle-of, names-tuple, register, put-register, marked, set-deep}
 use Rattle.rules.specs.Place.{Place, copy-place, at, write, shade}
 use Rattle.rules.specs.Request.{put-on-hold, new-entry, take-room, new-tuple}
-use Rattle.history.specs.Machine.{Asked as Wanted, word-of, HWord, datum, pointer-to, History, register-of, size-at, made, put-in, make, advance-by, load-from, store-to, size-to, tag-to, do-request, hold-request, with-hold}
+use Rattle.rules.specs.Answers.{named, number as number-in}
+use Rattle.history.specs.Machine.{Asked as Wanted, word-of, HWord, datum, pointer-to, History, register-of, size-at, made, put-in, make, advance-by, load-from, store-to, size-to, tag-to, do-request, hold-request, with-hold, stored-in}
 use Rattle.history.specs.Calls.{Pending, Log, given-by, disturb, pend, log-done, log-held}
 use Rattle.history.proofs.Invariant.Statement.{Scans, Ghosts, Inv, Kept}
-use Rattle.history.proofs.View.Request.{named, number as number-in, place-of, There}
+use Rattle.rules.proofs.View.Request.{place-of, There}
 use Rattle.history.proofs.Marking.Alike.{with-scans}
 use Rattle.history.proofs.Marking.Shade.{shade-scans, shade-alike, shade-numbers}
 use Rattle.history.proofs.Left.Count.{left}
@@ -33,7 +34,7 @@ use Rattle.history.proofs.Asking.Store.{stores-data, data-stored, deep-
 use Rattle.history.proofs.Relation.Statement.{Related}
 use Rattle.history.proofs.Relation.NewTuple.{renumbered, related-made}
 use Rattle.history.proofs.Relation.Hold.{registers-request, related-hold}
-use Rattle.history.proofs.Relation.Store.{related-store, stored-in}
+use Rattle.history.proofs.Relation.Store.{related-store}
 use Rattle.history.proofs.Spared.History.{spared-request}
 use Rattle.history.proofs.Spared.Steps.{shade-marked-only}
 use Rattle.history.proofs.Spared.Requests.{tracked-in, tracked-asked, tracked-made}

@@ -15,8 +15,8 @@ use Rattle.rules.specs.Box.{handle-of, register}
 use Rattle.rules.specs.Request.{new-tuple}
 use Rattle.rules.specs.Collector.{at-rest, unheld, granted}
 use Rattle.history.specs.Machine.{Asked, History, made, make, with-hold, grant}
-use Rattle.history.specs.Calls.{Cycle, Pending, Answered, Log, cycle-step, wait-step, end-log-cycle, answer-hold, given-held, log-ended, log-dropped, log-granted}
-use Rattle.history.specs.Demand3.{Every, Swept, JustlyAnswered}
+use Rattle.history.specs.Calls.{Cycle, EndedCycle, Pending, Answered, Log, cycle-step, wait-step, end-log-cycle, answer-hold, given-held, log-ended, log-dropped, log-granted, with-step-answers}
+use Rattle.history.specs.Demand3.{Every, Swept, JustlyAnswered, AnsweredInTime, EndedBounded, ends-cycle, answers-hold, AnswersLogged}
 use Rattle.history.proofs.Invariant.Statement.{Ghosts, Inv, Kept}
 use Rattle.history.proofs.Invariant.Frame.{Next}
 use Rattle.history.proofs.Left.Count.{left}
@@ -80,33 +80,39 @@ module _ (m h : ℕ) (b : Box) (t : History) (l : Log) (k : Good m h b t l) (c :
   kept-spared : (x : ℕ) → Kept (at-rest c) (n .ghosts .plan) x → Spared started (k .number x)
   kept-spared = sp t (l .given) (k .number) started (k .related) (last .known .tracked)
 
+  -- as it has ended
+  abbrev ends : ℕ → Box → List ℕ → EndedCycle
+  ends x e given = record { cycle = full; answer = x; box-then = e; given-then = given }
+
   -- the claims about the cycles that have ended, with this one
-  ended-now : (e : Box) (given : List ℕ) (answered : List Answered) → Swept (record { cycle = full; box-then = e; given-then = given })
-      → Every (JustlyAnswered m h) answered → Every (λ (x : Answered). x .hold .steps ≤ 16 * m + 4) answered
-      → Past m h (end-log-cycle (cycle-step b t (l .cycle)) e given (l .ended)) answered
+  ended-now : (x : ℕ) (e : Box) (given : List ℕ) (answered : List Answered) → ends-cycle x ≡ true → Swept (ends x e given)
+      → Every (JustlyAnswered m h) answered → Every (AnsweredInTime m) answered → AnswersLogged answered (x ∷ l .step-answers)
+      → Past m h (x ∷ l .step-answers) (end-log-cycle (cycle-step b t (l .cycle)) x e given (l .ended)) answered
   unfolding end-log-cycle
-  ended-now e given answered w j i =
-      subst (λ (o : Option Cycle). Past m h (end-log-cycle o e given (l .ended)) answered) (sym now-full)
-      (record { swept = (w, k .past .swept); justly = j; in-time = i; bounded = (took, k .past .bounded) })
+  ended-now x e given answered f w j i z =
+      subst (λ (o : Option Cycle). Past m h (x ∷ l .step-answers) (end-log-cycle o x e given (l .ended)) answered) (sym now-full)
+      (record { swept = (w, k .past .swept); justly = j; in-time = i; bounded = (took, k .past .bounded); ends-logged = rw f (ap (λ (xs : List ℕ). x ∷ xs) (k .past .ends-logged)); answers-logged = z })
     where
-      took : full .quiet ≡ true → full .steps ≤ 8 * full .first-top + 2
+      took : EndedBounded (ends x e given)
       took q =
           let u : last .cycle .steps + left b (k .ghosts) ≤ 8 * last .cycle .first-top + 2 = last .known .bounded q in
           let v : 1 ≤ left b (k .ghosts) = left-positive b (k .ghosts) (k .inv) in
           omega arith
 
   -- what was unreachable is gone, in a box at rest whose kept tuples are spared
-  swept-now : (e : Box) (g : Ghosts) (u : History) (given : List ℕ) (number : ℕ → ℕ) → Inv e g → Related e (g .plan) u given number
+  swept-now : (a : ℕ) (e : Box) (g : Ghosts) (u : History) (given : List ℕ) (number : ℕ → ℕ) → Inv e g → Related e (g .plan) u given number
       → e .collector .phase ≡ 0 → made started ≤ made u → ((x : ℕ) → Kept e (g .plan) x → Spared started (number x))
-      → Swept (record { cycle = full; box-then = e; given-then = given })
-  swept-now e g u given number v r p f q = record { dead-are-gone = λ i y z. gone-at-rest e g u given number started v r p f q i (y .0) (y .1) z }
+      → Swept (ends a e given)
+  swept-now a e g u given number v r p f q = record { dead-are-gone = λ i y z. gone-at-rest e g u given number started v r p f q i (y .0) (y .1) z }
 
-  swept-rest : Swept (record { cycle = full; box-then = at-rest c; given-then = l .given })
-  swept-rest = swept-now (at-rest c) (n .ghosts) t (l .given) (k .number) (n .inv) related resting (last .known .tracked .not-fewer) kept-spared
+  swept-rest : (x : ℕ) → Swept (ends x (at-rest c) (l .given))
+  swept-rest x = swept-now x (at-rest c) (n .ghosts) t (l .given) (k .number) (n .inv) related resting (last .known .tracked .not-fewer) kept-spared
 
-  rested : Waiting (at-rest c) (n .ghosts) t (wait-step (l .pending)) → Good m h (at-rest c) t (log-ended b (at-rest c) t l)
+  -- after an answer that ends the cycle and no hold
+  rested : (x : ℕ) → ends-cycle x ≡ true → answers-hold x ≡ false → Waiting (at-rest c) (n .ghosts) t (wait-step (l .pending))
+      → Good m h (at-rest c) t (with-step-answers (x ∷ l .step-answers) (log-ended x b (at-rest c) t l))
   unfolding log-ended
-  rested w =
+  rested x f z w =
       record {
         m-is = m-same;
         h-is = h-same;
@@ -117,14 +123,14 @@ module _ (m h : ℕ) (b : Box) (t : History) (l : Log) (k : Good m h b t l) (c :
         eight = k .eight;
         cycling = between resting refl;
         waiting = w;
-        past = ended-now (at-rest c) (l .given) (l .answered) swept-rest (k .past .justly) (k .past .in-time);
+        past = ended-now x (at-rest c) (l .given) (l .answered) f (swept-rest x) (k .past .justly) (k .past .in-time) (rw z (k .past .answers-logged));
       }
 
   -- ---- nothing held: 31
 
-  pub good-free : c .hold .held ≡ false → Good m h (at-rest c) t (log-ended b (at-rest c) t l)
+  pub good-free : c .hold .held ≡ false → Good m h (at-rest c) t (with-step-answers (31 ∷ l .step-answers) (log-ended 31 b (at-rest c) t l))
   unfolding at-rest wait-step
-  good-free p = rested (go (k .waiting))
+  good-free p = rested 31 refl refl (go (k .waiting))
     where
       go : Waiting b (k .ghosts) t (l .pending) → Waiting (at-rest c) (n .ghosts) t (wait-step (l .pending))
       go (nothing-held q x o) = nothing-held p x (ap wait-step o)
@@ -161,9 +167,9 @@ module _ (m h : ℕ) (b : Box) (t : History) (l : Log) (k : Good m h b t l) (c :
 
   -- ---- it stays: 33
 
-  pub good-held : c .hold .held ≡ true → c .hold .begun ≡ false → Good m h (at-rest c) t (log-ended b (at-rest c) t l)
+  pub good-held : c .hold .held ≡ true → c .hold .begun ≡ false → Good m h (at-rest c) t (with-step-answers (33 ∷ l .step-answers) (log-ended 33 b (at-rest c) t l))
   unfolding at-rest
-  good-held p q = rested (one-held p (y .asked) (y .asked-is) (waited y) (now-waited y) stays)
+  good-held p q = rested 33 refl refl (one-held p (y .asked) (y .asked-is) (waited y) (now-waited y) stays)
     where
       y : Holding
       y = holding p
@@ -186,8 +192,8 @@ module _ (m h : ℕ) (b : Box) (t : History) (l : Log) (k : Good m h b t l) (c :
 
   -- ---- it is answered
 
-  in-time-now : (y : Holding) → suc (y .pending .steps) ≤ 16 * m + 4
-  in-time-now y =
+  in-time-now : (x : ℕ) (y : Holding) → AnsweredInTime m (record { hold = waited y; answer = x })
+  in-time-now x y =
       let u : y .pending .steps + left b (k .ghosts) ≤ 16 * b .m + 4 = y .what .in-time in
       let v : 1 ≤ left b (k .ghosts) = left-positive b (k .ghosts) (k .inv) in
       let e : b .m ≡ m = k .m-is in
@@ -200,7 +206,7 @@ module _ (m h : ℕ) (b : Box) (t : History) (l : Log) (k : Good m h b t l) (c :
 
   pub good-dropped : c .hold .held ≡ true → c .hold .begun ≡ true
       → (c .free ≡ 0) ⊎ (c .m < c .top + c .hold .size + 1)
-      → Good m h (unheld (at-rest c)) (with-hold none t) (log-dropped b (unheld (at-rest c)) t l)
+      → Good m h (unheld (at-rest c)) (with-hold none t) (with-step-answers (8 ∷ l .step-answers) (log-dropped b (unheld (at-rest c)) t l))
   unfolding log-dropped at-rest unheld
   good-dropped p q o =
       record {
@@ -232,19 +238,19 @@ module _ (m h : ℕ) (b : Box) (t : History) (l : Log) (k : Good m h b t l) (c :
           (subst (λ (x : ℕ). JustlyAnswered (at-rest c .m) x (record { hold = waited y; answer = 8 })) h-same
           (dropped-justly (at-rest c) (n .ghosts) t (l .given) (k .number) (n .inv) related resting (λ x z. subst (λ (u : History). Spared u (k .number x)) same (kept-spared x z)) (c .hold .size) o (waited y) (y .what .history-is) (size-asked y)))
 
-      swept : Swept (record { cycle = full; box-then = unheld (at-rest c); given-then = l .given })
-      swept = swept-now (unheld (at-rest c)) (n .ghosts) (with-hold none t) (l .given) (k .number) (invariant-unheld (at-rest c) (n .ghosts) (n .inv)) after refl (last .known .tracked .not-fewer) (λ x z. kept-spared x (unheld-quiet (at-rest c) (n .ghosts .plan) .kept-to x z))
+      swept : Swept (ends 8 (unheld (at-rest c)) (l .given))
+      swept = swept-now 8 (unheld (at-rest c)) (n .ghosts) (with-hold none t) (l .given) (k .number) (invariant-unheld (at-rest c) (n .ghosts) (n .inv)) after refl (last .known .tracked .not-fewer) (λ x z. kept-spared x (unheld-quiet (at-rest c) (n .ghosts .plan) .kept-to x z))
 
       answers : answer-hold (wait-step (l .pending)) 8 (l .answered) ≡ record { hold = waited y; answer = 8 } ∷ l .answered
       answers = answer-with 8 y
 
-      ended : Past m h (end-log-cycle (cycle-step b t (l .cycle)) (unheld (at-rest c)) (l .given) (l .ended)) (answer-hold (wait-step (l .pending)) 8 (l .answered))
+      ended : Past m h (8 ∷ l .step-answers) (end-log-cycle (cycle-step b t (l .cycle)) 8 (unheld (at-rest c)) (l .given) (l .ended)) (answer-hold (wait-step (l .pending)) 8 (l .answered))
       ended =
-          subst (λ (x : List Answered). Past m h (end-log-cycle (cycle-step b t (l .cycle)) (unheld (at-rest c)) (l .given) (l .ended)) x) (sym answers)
-          (ended-now (unheld (at-rest c)) (l .given) (record {
+          subst (λ (x : List Answered). Past m h (8 ∷ l .step-answers) (end-log-cycle (cycle-step b t (l .cycle)) 8 (unheld (at-rest c)) (l .given) (l .ended)) x) (sym answers)
+          (ended-now 8 (unheld (at-rest c)) (l .given) (record {
             hold = waited y;
             answer = 8;
-          } ∷ l .answered) swept (justly, k .past .justly) (in-time-now y, k .past .in-time))
+          } ∷ l .answered) refl swept (justly, k .past .justly) (in-time-now 8 y, k .past .in-time) (ap (λ (xs : List ℕ). 8 ∷ xs) (k .past .answers-logged)))
 
   -- ---- it is granted: 32
 
@@ -330,14 +336,15 @@ module _ (m h : ℕ) (b : Box) (t : History) (l : Log) (k : Good m h b t l) (c :
         let q : made (make (wanted .register) (wanted .size) (wanted .tag) t) ≡ suc (made t) = made-make (wanted .register) (wanted .size) (wanted .tag) t in
         omega arith
 
-    ended-granted : Past m h (end-log-cycle (cycle-step b t (l .cycle)) (unheld made-box) given-now (l .ended)) (answer-hold (wait-step (l .pending)) 32 (l .answered))
+    ended-granted : Past m h (32 ∷ l .step-answers) (end-log-cycle (cycle-step b t (l .cycle)) 32 (unheld made-box) given-now (l .ended)) (answer-hold (wait-step (l .pending)) 32 (l .answered))
     ended-granted =
-        subst (λ (x : List Answered). Past m h (end-log-cycle (cycle-step b t (l .cycle)) (unheld made-box) given-now (l .ended)) x) (sym (answer-with 32 y))
-        (ended-now (unheld made-box) given-now (record { hold = waited y; answer = 32 } ∷ l .answered)
-        (swept-now (unheld made-box) made-g (grant (some wanted) t) given-now numbers (invariant-unheld made-box made-g made-inv) after-noted rest-phase more-made still-spared)
-        (justly, k .past .justly) (in-time-now y, k .past .in-time))
+        subst (λ (x : List Answered). Past m h (32 ∷ l .step-answers) (end-log-cycle (cycle-step b t (l .cycle)) 32 (unheld made-box) given-now (l .ended)) x) (sym (answer-with 32 y))
+        (ended-now 32 (unheld made-box) given-now (record { hold = waited y; answer = 32 } ∷ l .answered) refl
+        (swept-now 32 (unheld made-box) made-g (grant (some wanted) t) given-now numbers (invariant-unheld made-box made-g made-inv) after-noted rest-phase more-made still-spared)
+        (justly, k .past .justly) (in-time-now 32 y, k .past .in-time)
+        (ap (λ (xs : List ℕ). 32 ∷ xs) (k .past .answers-logged)))
 
-    good-wanted : Good m h (unheld made-box) (grant (some wanted) t) (log-granted b (unheld made-box) t l)
+    good-wanted : Good m h (unheld made-box) (grant (some wanted) t) (with-step-answers (32 ∷ l .step-answers) (log-granted b (unheld made-box) t l))
     unfolding log-granted unheld grant
     good-wanted =
         record {
@@ -353,6 +360,6 @@ module _ (m h : ℕ) (b : Box) (t : History) (l : Log) (k : Good m h b t l) (c :
           past = ended-granted;
         }
 
-    pub good-granted : Good m h (granted (at-rest c)) (grant (t .hold) t) (log-granted b (granted (at-rest c)) t l)
+    pub good-granted : Good m h (granted (at-rest c)) (grant (t .hold) t) (with-step-answers (32 ∷ l .step-answers) (log-granted b (granted (at-rest c)) t l))
     unfolding granted at-rest
-    good-granted = subst (λ (o : Option Asked). Good m h (unheld made-box) (grant o t) (log-granted b (unheld made-box) t l)) (sym (y .asked-is ∙ ap some (asked-wanted y))) good-wanted
+    good-granted = subst (λ (o : Option Asked). Good m h (unheld made-box) (grant o t) (with-step-answers (32 ∷ l .step-answers) (log-granted b (unheld made-box) t l))) (sym (y .asked-is ∙ ap some (asked-wanted y))) good-wanted

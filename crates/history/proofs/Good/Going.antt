@@ -2,6 +2,7 @@
 -- one step more, and the steps left fall. Assumes nothing.
 use Prim.Native.Nat.{ℕ, suc, _+_, _*_, _≤_, _<_}
 use mathlib.Core.Bool.{true, false, true≢false}
+use mathlib.Core.List.{_∷_}
 use mathlib.Core.Logic.{_≢_}
 use mathlib.Core.Option.{none}
 use mathlib.Core.Path.{_≡_, refl, sym, _∙_, ap}
@@ -9,7 +10,7 @@ use native.Mathlib.Omega.{arith}
 use borrow.Author.Tests.{eq-eqb}
 use Rattle.rules.specs.Parts.{Box}
 use Rattle.history.specs.Machine.{Asked, History}
-use Rattle.history.specs.Calls.{Pending, Log, cycle-step, wait-step, log-going}
+use Rattle.history.specs.Calls.{Pending, Log, cycle-step, wait-step, log-going, with-step-answers}
 use Rattle.history.proofs.Invariant.Frame.{Next}
 use Rattle.history.proofs.Left.Count.{left}
 use Rattle.history.proofs.Left.Bounds.{left-bound}
@@ -77,7 +78,8 @@ module _ (m h : ℕ) (b : Box) (t : History) (l : Log) (k : Good m h b t l) (c :
             in-time-twice = twice q w p y z;
           })
 
-  pub good-on : Track b (k .ghosts) c (n .ghosts .plan) → Good m h c t (log-going b t l)
+  -- 30 ends no cycle and answers no hold
+  pub good-on : Track b (k .ghosts) c (n .ghosts .plan) → Good m h c t (with-step-answers (30 ∷ l .step-answers) (log-going b t l))
   unfolding log-going
   good-on z =
       record {
@@ -90,5 +92,12 @@ module _ (m h : ℕ) (b : Box) (t : History) (l : Log) (k : Good m h b t l) (c :
         eight = k .eight;
         cycling = cycling-on z;
         waiting = waiting-on z;
-        past = k .past;
+        past = record {
+          swept = k .past .swept;
+          justly = k .past .justly;
+          in-time = k .past .in-time;
+          bounded = k .past .bounded;
+          ends-logged = k .past .ends-logged;
+          answers-logged = k .past .answers-logged;
+        };
       }

@@ -1,7 +1,7 @@
 -- Every request leaves all as it should be, and none answers 9: by cases on the view of requests, each met by its lemma.
 -- Assumes nothing.
 use Prim.Native.Nat.{ℕ, _+_}
-use mathlib.Core.Bool.{true, false, true≢false, cond}
+use mathlib.Core.Bool.{true≢false, cond}
 use mathlib.Core.Logic.{_≢_}
 use mathlib.Core.Path.{_≡_, sym, _∙_, subst}
 use native.Mathlib.Omega.{arith}
@@ -12,10 +12,12 @@ use Rattle.rules.specs.Parts.{Box}
 use Rattle.rules.specs.Box.{Reply, reply, data-word, pointer, offset-of, tag-of, register, size-of}
 use Rattle.rules.specs.Place.{place, read}
 use Rattle.rules.specs.Request.{same-word, request}
+use Rattle.rules.specs.Answers.{named, number as number-in}
 use Rattle.history.specs.Machine.{hold-request, History, feed, ask, do-request}
 use Rattle.history.specs.Calls.{log-done, log-held, Log, given-by, log-request, RequestInWidth}
+use Rattle.history.specs.Demand3.{NotNine}
 use Rattle.history.proofs.Invariant.Statement.{Ghosts}
-use Rattle.history.proofs.View.Request.{Asked, named, number as number-in, place-of, asked}
+use Rattle.rules.proofs.View.Request.{Asked, place-of, asked}
 use Rattle.history.proofs.Asking.InRange.{sound-box}
 use Rattle.history.proofs.Asking.Registers.{register-takes-data, register-takes-nil, register-takes-register, register-advances, register-loads}
 use Rattle.history.proofs.Asking.Store.{stores-late, stores-marked}
@@ -27,7 +29,7 @@ use Rattle.history.proofs.Invariant.Theorems.{never-loss}
 -- ---- what is to be shown of a reply
 
 pub record GoodReply (m h : ℕ) (q : Request) (r : Reply) (t : History) (l : Log) : Type 0 where
-  pub not-nine : r .answer ≢ 9
+  pub not-nine : NotNine (r .answer)
   pub good : Good m h (r .box) (feed (ask q) (r .answer) t) (log-request q (r .answer) (r .box) (feed (ask q) (r .answer) t) l)
 
 -- carried out
@@ -41,7 +43,7 @@ unfolding feed log-request
 held-reply m h q c t l k = record { not-nine = omega arith; good = k }
 
 -- refused
-refused-reply : (m h : ℕ) (q : Request) (b : Box) (t : History) (l : Log) (a : ℕ) → a ≢ 0 → a ≢ 7 → a ≢ 9 → Good m h b t l → GoodReply m h q (reply b a) t l
+refused-reply : (m h : ℕ) (q : Request) (b : Box) (t : History) (l : Log) (a : ℕ) → a ≢ 0 → a ≢ 7 → NotNine a → Good m h b t l → GoodReply m h q (reply b a) t l
 unfolding feed log-request
 refused-reply m h q b t l a z s n k = record { not-nine = n; good = simp (ne-eqb a 0 z, ne-eqb a 7 s) k }
 
@@ -58,8 +60,8 @@ module _ (m h : ℕ) (b : Box) (t : History) (l : Log) (k : Good m h b t l) wher
   by-view : (q : Request) → RequestInWidth q → Asked b q → GoodReply m h q (request q b) t l
   unfolding given-by
   by-view q w (Asked.refuses-unsound s e) = absurd (true≢false (sym (sound-box b g (k .inv)) ∙ s))
-  by-view q w (Asked.refuses a x y z e) = subst (λ (r : Reply). GoodReply m h q r t l) (sym e) (refused-reply m h q b t l a x y z k)
-  by-view q w (Asked.refuses-lost s u o e) = absurd (never-loss b g (k .inv) o)
+  by-view q w (Asked.refuses a x y z o e) = subst (λ (r : Reply). GoodReply m h q r t l) (sym e) (refused-reply m h q b t l a x y (omega (arith, z)) k)
+  by-view q w (Asked.refuses-lost s u o z e) = absurd (never-loss b g (k .inv) o)
   by-view q w (Asked.holds {r} {n} {t = tag} s u lr a o e) = held e (good-hold m h b t l k r n tag lr (w .2) u)
   by-view q w (Asked.sets-data {r} {v} s u lr e) =
       carried e

@@ -12,7 +12,7 @@ use Rattle.rules.specs.Limits.{register-count}
 use Rattle.rules.specs.Parts.{Box}
 use Rattle.history.specs.Machine.{Asked, History}
 use Rattle.history.specs.Calls.{Cycle, EndedCycle, Pending, Answered, Log}
-use Rattle.history.specs.Demand3.{Every, Swept, JustlyAnswered}
+use Rattle.history.specs.Demand3.{Every, Swept, JustlyAnswered, AnsweredInTime, EndedBounded, EndsLogged, AnswersLogged}
 use Rattle.history.proofs.Invariant.Statement.{Ghosts, Inv}
 use Rattle.history.proofs.Left.Count.{left}
 use Rattle.history.proofs.Relation.Statement.{Related}
@@ -48,12 +48,14 @@ pub data Waiting (b : Box) (g : Ghosts) (t : History) (o : Option Pending) : Typ
 
 -- ---- all of it
 
--- what has ended so far
-pub record Past (m h : ℕ) (ended : List EndedCycle) (answered : List Answered) : Type 0 where
+-- what has ended so far, and that the log has all of it
+pub record Past (m h : ℕ) (steps : List ℕ) (ended : List EndedCycle) (answered : List Answered) : Type 0 where
   pub swept : Every Swept ended
   pub justly : Every (JustlyAnswered m h) answered
-  pub in-time : Every (λ (a : Answered). a .hold .steps ≤ 16 * m + 4) answered
-  pub bounded : Every (λ (e : EndedCycle). e .cycle .quiet ≡ true → e .cycle .steps ≤ 8 * e .cycle .first-top + 2) ended
+  pub in-time : Every (AnsweredInTime m) answered
+  pub bounded : Every EndedBounded ended
+  pub ends-logged : EndsLogged ended steps
+  pub answers-logged : AnswersLogged answered steps
 
 pub record Good (m h : ℕ) (b : Box) (t : History) (l : Log) : Type 0 where
   pub m-is : b .m ≡ m
@@ -65,4 +67,4 @@ pub record Good (m h : ℕ) (b : Box) (t : History) (l : Log) : Type 0 where
   pub eight : length (t .registers) ≡ register-count
   pub cycling : Cycling b ghosts t number (l .cycle)
   pub waiting : Waiting b ghosts t (l .pending)
-  pub past : Past m h (l .ended) (l .answered)
+  pub past : Past m h (l .step-answers) (l .ended) (l .answered)

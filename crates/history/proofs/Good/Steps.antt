@@ -1,7 +1,7 @@
 -- Every step leaves all as it should be and none answers 9; so does every run with a budget, which is so many single steps.
 -- Assumes nothing.
 use Prim.Native.Nat.{ℕ, zero, suc}
-use mathlib.Core.Bool.{true, false, true≢false}
+use mathlib.Core.Bool.{true≢false}
 use mathlib.Core.Logic.{_≢_, _⊎_, inl, inr}
 use mathlib.Core.Option.{Option, none}
 use mathlib.Core.Path.{_≡_, refl, sym, _∙_, ap, subst}
@@ -11,7 +11,8 @@ use Rattle.rules.specs.Box.{Reply}
 use Rattle.rules.specs.Collector.{at-rest, end-cycle, step}
 use Rattle.rules.specs.Run.{Ran, ran, counted, Course, goes-on as going-on, stops, refuses, course, run-on, run}
 use Rattle.history.specs.Machine.{Asked, History, grant, with-hold, feed, run-for}
-use Rattle.history.specs.Calls.{Log, log-step, log-steps}
+use Rattle.history.specs.Calls.{Log, log-parts, log-step, log-steps}
+use Rattle.history.specs.Demand3.{NotNine}
 use Rattle.history.proofs.Invariant.Frame.{Next}
 use Rattle.history.proofs.Invariant.Stepping.{SameHold, EndsSpared, Stepped, stepped}
 use Rattle.history.proofs.Asking.InRange.{sound-box}
@@ -34,7 +35,7 @@ module _ (m h : ℕ) (b : Box) (t : History) (l : Log) (k : Good m h b t l) wher
   -- an end of the cycle, by what becomes of the hold
   by-ending : (c : Box) (n : Next b (k .ghosts) (at-rest c)) → b .collector .phase ≢ 0 → SameHold b c → c .hold .begun ≡ b .hold .begun
       → EndsSpared b (k .ghosts) (at-rest c) (n .ghosts .plan) → CycleEnd b c (n .ghosts) → After m h b t l (end-cycle b c)
-  unfolding log-step
+  unfolding log-step log-parts
   by-ending c n d s a sp (CycleEnd.ends-free p e) = subst (After m h b t l) (sym e) (free refl (none-held (k .waiting)) (good-free m h b t l k c n d s a sp p))
     where
       none-held : Waiting b (k .ghosts) t (l .pending) → t .hold ≡ none
@@ -45,7 +46,7 @@ module _ (m h : ℕ) (b : Box) (t : History) (l : Log) (k : Good m h b t l) wher
   by-ending c n d s a sp (CycleEnd.ends-granted p f u e i) = subst (After m h b t l) (sym e) (given refl (good-granted m h b t l k c n d s a sp p f u))
 
   pub after-step : After m h b t l (step b)
-  unfolding log-step
+  unfolding log-step log-parts
   after-step = go (stepped b (k .ghosts) (k .inv))
     where
       go : Stepped b (k .ghosts) → After m h b t l (step b)
@@ -56,7 +57,7 @@ module _ (m h : ℕ) (b : Box) (t : History) (l : Log) (k : Good m h b t l) wher
 
 -- what is to be shown of a run
 pub record GoodRun (m h n : ℕ) (b : Box) (r : Ran) (t : History) (l : Log) : Type 0 where
-  pub not-nine : r .answer ≢ 9
+  pub not-nine : NotNine (r .answer)
   pub good : Good m h (r .box) (feed (run-for n) (r .answer) t) (log-steps (r .steps) b t l)
 
 -- the run goes on after its first step: the history machine stays until the last
@@ -65,7 +66,7 @@ unfolding log-steps
 further m h n b r t l k = record { not-nine = k .not-nine; good = k .good }
 
 -- it stops at its first step
-last-step : (m h n : ℕ) (b : Box) (a : ℕ) (t : History) (l : Log) → a ≢ 9
+last-step : (m h n : ℕ) (b : Box) (a : ℕ) (t : History) (l : Log) → NotNine a
     → Good m h (step b .box) (feed (run-for n) a t) (log-step b (step b) t l) → GoodRun m h n b (ran (step b .box) a 1) t l
 unfolding log-steps
 last-step m h n b a t l z k = record { not-nine = z; good = k }

@@ -11,9 +11,10 @@ use Rattle.rules.specs.Parts.{Box}
 use Rattle.rules.specs.Box.{reply}
 use Rattle.rules.specs.Request.{new-tuple}
 use Rattle.rules.specs.Collector.{at-rest, unheld, granted, end-cycle}
+use Rattle.rules.specs.Answers.{Entry, NoRoom}
 use Rattle.history.proofs.Invariant.Statement.{Ghosts, Inv}
-use Rattle.history.proofs.View.Tests.{Entry, NoRoom, Room}
-use Rattle.history.proofs.View.End.{Ending, ending}
+use Rattle.rules.proofs.View.Tests.{Room}
+use Rattle.rules.proofs.View.End.{Ending, ending}
 use Rattle.history.proofs.Asking.InRange.{free-bounds}
 use Rattle.history.proofs.Asking.Registers.{invariant-unheld}
 use Rattle.history.proofs.Asking.NewTuple.{made-ghosts, invariant-new-tuple}

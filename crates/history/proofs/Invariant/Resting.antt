@@ -1,7 +1,7 @@
 -- A cycle's end: once every tuple left is settled, the box at rest has the invariant, with all of them ahead. Each group of
 -- clauses is rebuilt from what the last transition of the cycle shows. Assumes nothing.
 use Prim.Native.Nat.{ℕ, _≤_}
-use mathlib.Core.Bool.{true, false, false≢true}
+use mathlib.Core.Bool.{false, false≢true}
 use mathlib.Core.List.{List, []}
 use mathlib.Core.Path.{_≡_, refl, sym, _∙_}
 use native.Mathlib.Omega.{arith}

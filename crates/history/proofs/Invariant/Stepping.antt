@@ -19,8 +19,8 @@ use Rattle.history.proofs.Invariant.Resting.{resting, none-kept}
 use Rattle.history.proofs.Relation.Statement.{Related}
 use Rattle.history.proofs.Spared.Tracked.{Spared, Tracked, root-spared}
 use Rattle.history.proofs.Spared.Steps.{tracked-rests, tracked-marks, tracked-sweep, tracked-swept, ended-spared, shade-marked-only, scanned-spared}
-use Rattle.history.proofs.View.Tests.{true-is-not-false}
-use Rattle.history.proofs.View.Step.{RootsMarked, Reason, Step, view}
+use Rattle.rules.proofs.View.Tests.{true-is-not-false}
+use Rattle.rules.proofs.View.Step.{RootsMarked, Reason, Step, view}
 use Rattle.history.proofs.Marking.Alike.{none-wait, Onward, onward-next}
 use Rattle.history.proofs.Marking.Shade.{shade-numbers}
 use Rattle.history.proofs.Marking.Start.{rests, takes-next, shades-root}
@@ -43,7 +43,7 @@ use Rattle.history.proofs.Moving.Tuple.{read-fits, Finishes, finish-fit
 use Rattle.history.proofs.Left.Count.{left}
 use Rattle.history.proofs.Left.Steps.{step-left}
 use Rattle.history.proofs.Invariant.Stages.{unswept-of}
-use Rattle.history.proofs.View.Boxes.{rested-box, scanned-data-box, scanned-pointer-box, swept-size, swept-after, kept-last-box, kept-box, move-begun-box, released-box, zero-begun-box, copied-box, moved-last-box, moved-box, cleared-box, zeroed-last-box}
+use Rattle.rules.proofs.View.Boxes.{rested-box, scanned-data-box, scanned-pointer-box, swept-size, swept-after, kept-last-box, kept-box, move-begun-box, released-box, zero-begun-box, copied-box, moved-last-box, moved-box, cleared-box, zeroed-last-box}
 
 -- ---- the result
 
@@ -80,8 +80,8 @@ pub data Stepped (b : Box) (g : Ghosts) : Type 0 where
 -- no rule looks up, touches or forms anything out of range
 pub never-reason : (b : Box) (g : Ghosts) → Inv b g → Reason b → ⊥
 never-reason b g v (Reason.next-lost p n e) = e (next-entry b g v n)
-never-reason b g v (Reason.root-lost p z r l n e) = e (root-entry b g v (omega arith) r l n)
-never-reason b g v (Reason.root-total p z r l n e t u) = omega (arith, root-room b g v (omega arith) r l n t)
+never-reason b g v (Reason.root-lost p z r l g′ n e) = e (root-entry b g v (omega arith) r l n)
+never-reason b g v (Reason.root-total p z r l g′ n e t u) = omega (arith, root-room b g v (omega arith) r l n t)
 never-reason b g v (Reason.scan-past p i a) = omega (arith, scan-room b g v p i)
 never-reason b g v (Reason.current-lost p i n e) = e (current-entry b g v n)
 never-reason b g v (Reason.add-lost p e) = e (tuple-entry b g v p)
@@ -378,7 +378,7 @@ stepped b g v = go (view b)
     go (Step.nine f r s) = absurd (never-reason b g v r)
     go (Step.rests f p s) = step-rests b g v p s
     go (Step.takes-next f p z e s) = step-takes-next b g v p z s
-    go (Step.shades-root f p z r l n e t u s) = step-shades-root b g v p r l n t s
+    go (Step.shades-root f p z r l g′ n e t u s) = step-shades-root b g v p r l n t s
     go (Step.ends-empty f p z m t s) = step-ends-empty b g v p z t s
     go (Step.begins-sweep f p z m t s) = step-begins-sweep b g v p z m t s
     go (Step.scans-data f p i a n s) = step-scans-data b g v p i n s

@@ -19,11 +19,13 @@ use Rattle.rules.specs.Place.{place, read}
 use Rattle.rules.specs.Open.{opened, opening}
 use Rattle.rules.specs.Request.{put-on-hold, same-word, request}
 use Rattle.rules.specs.Collector.{at-rest, unheld, granted, end-cycle, step}
+use Rattle.rules.specs.Answers.{named, number}
 use Rattle.history.specs.Calls.{RequestInWidth}
 use Rattle.history.proofs.Invariant.Statement.{Ghosts, Inv, Kept}
 use Rattle.history.proofs.Invariant.Resting.{resting}
-use Rattle.history.proofs.View.Tests.{true-is-not-false, and-left}
-use Rattle.history.proofs.View.Request.{named, number, Loss, There, Asked, asked}
+use Rattle.rules.proofs.View.Tests.{true-is-not-false}
+use Rattle.rules.proofs.Sizes.{and-left}
+use Rattle.rules.proofs.View.Request.{Loss, There, Asked, asked}
 use Rattle.history.proofs.Marking.Alike.{with-scans}
 use Rattle.history.proofs.Marking.Shade.{shade-scans}
 use Rattle.history.proofs.Marking.InRange.{root-room}
@@ -124,8 +126,8 @@ never-nine-request q b g v = go (asked q b)
 
     go : {q : Request} → Asked b q → request q b .answer ≢ 9
     go (Asked.refuses-unsound f e) = absurd (true-is-not-false (sym (sound-box b g v) ∙ f))
-    go (Asked.refuses {q} a x y z e) = answers (request q b) b a 9 e z
-    go (Asked.refuses-lost f h x e) = absurd (never-loss b g v x)
+    go (Asked.refuses {q} a x y z o e) = answers (request q b) b a 9 e z
+    go (Asked.refuses-lost f h x o e) = absurd (never-loss b g v x)
     go (Asked.holds {r} {n} {t} f h l z m e) = answers (request (Getm r n t) b) (put-on-hold r n t b) 7 9 e (omega arith)
     go (Asked.sets-data f h l e) = done e
     go (Asked.sets-nil f h l e) = done e
@@ -151,8 +153,8 @@ invariant-request q b g w v = go w (asked q b)
 
     go : {q : Request} → RequestInWidth q → Asked b q → Grown (request q b)
     go w (Asked.refuses-unsound f e) = done e g v
-    go w (Asked.refuses a x y z e) = done e g v
-    go w (Asked.refuses-lost f h x e) = done e g v
+    go w (Asked.refuses a x y z o e) = done e g v
+    go w (Asked.refuses-lost f h x o e) = done e g v
     go w (Asked.holds {r} {n} {t} f h l z m e) = done e g (invariant-hold b g v r n t l (w .2))
     go w (Asked.sets-data {r} {v = x} f h l e) = done e g (register-takes-data b g v r x l)
     go w (Asked.sets-nil {r} f h l e) = done e g (register-takes-nil b g v r l)

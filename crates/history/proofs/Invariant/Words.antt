@@ -13,7 +13,8 @@ use Rattle.rules.specs.Parts.{Word, Box}
 use Rattle.rules.specs.Box.{word-at, put, address, handle-of, pointer, names-tuple, is-nil}
 use Rattle.rules.specs.Place.{being-moved, place, read}
 use Rattle.history.proofs.Invariant.Statement.{word}
-use Rattle.history.proofs.View.Tests.{and-false, and-left}
+use Rattle.rules.proofs.View.Tests.{and-false}
+use Rattle.rules.proofs.Sizes.{and-left}
 
 -- a tuple that is not being moved is at its address
 pub word-other : (h i : ℕ) (b : Box) → h ≢ b .collector .tuple → word h i b ≡ word-at (address h b + i) b

@@ -9,13 +9,13 @@ use Rattle.rules.specs.Box.{Reply, reply, handle-of, register}
 use Rattle.rules.specs.Place.{shade}
 use Rattle.rules.specs.Collector.{going, to-phase, after, at-rest, unheld, granted, end-cycle, scan, begin-sweep, go-on, settle-move, write-copy, zero-word, step}
 use Rattle.history.proofs.Invariant.Statement.{Ghosts, Inv}
-use Rattle.history.proofs.View.Step.{Step, unsound, nine, rests, takes-next, shades-root, ends-empty, begins-sweep, scans-data, scans-pointer, scan-ends, takes-current, adds-marked, adds-unmarked, keeps-last, keeps, starts-move, releases, starts-zero, copies-low, copies-high, ends-move, moves-on, clears, writes, zeroes, zero-ends, zero-on, view}
-use Rattle.history.proofs.View.End.{Ending, ends-free, ends-held, ends-dropped, ends-granted, ends-lost, ending}
+use Rattle.rules.proofs.View.Step.{Step, unsound, nine, rests, takes-next, shades-root, ends-empty, begins-sweep, scans-data, scans-pointer, scan-ends, takes-current, adds-marked, adds-unmarked, keeps-last, keeps, starts-move, releases, starts-zero, copies-low, copies-high, ends-move, moves-on, clears, writes, zeroes, zero-ends, zero-on, view}
+use Rattle.rules.proofs.View.End.{Ending, ends-free, ends-held, ends-dropped, ends-granted, ends-lost, ending}
 use Rattle.history.proofs.Left.Count.{left}
 use Rattle.history.proofs.Left.Marks.{left-rests, left-scans-data, left-scans-pointer}
 use Rattle.history.proofs.Left.Sweeps.{left-sweeps-on, left-starts-move, left-starts-zero, left-copies-high, left-copies-low}
 use Rattle.history.proofs.Left.Rules.{fewer-takes-next, fewer-shades-root, fewer-begins-sweep, fewer-scan-ends, fewer-takes-current, fewer-adds-marked, fewer-adds-unmarked, fewer-moves-on, fewer-clears, fewer-writes, fewer-zeroes, fewer-zero-on}
-use Rattle.history.proofs.View.Boxes.{rested-box, scanned-data-box, scanned-pointer-box, kept-last-box, kept-box, move-begun-box, released-box, zero-begun-box, copied-box, moved-last-box, moved-box, cleared-box, zeroed-last-box}
+use Rattle.rules.proofs.View.Boxes.{rested-box, scanned-data-box, scanned-pointer-box, kept-last-box, kept-box, move-begun-box, released-box, zero-begun-box, copied-box, moved-last-box, moved-box, cleared-box, zeroed-last-box}
 
 -- an answer other than 30
 not-going : (r s : Reply) → r .answer ≡ 30 → r ≡ s → s .answer ≢ 30 → ⊥
@@ -52,7 +52,7 @@ step-left b g v a g′ w = by-view (view b)
     by-view (nine s r e) = lost e
     by-view (rests s p e) = leaves (rested-box b) e (λ x. left-rests b g (rested-box b) g′ v x p refl (search) refl refl)
     by-view (takes-next s p n t e) = leaves (scan (b .collector .next) (with-next 0 b)) e (λ x. fewer-takes-next b g g′ v p n x)
-    by-view (shades-root s p n r l t y f m e) = leaves (shade (handle-of (register r b)) b) e (λ x. fewer-shades-root b g g′ v p r l t f x)
+    by-view (shades-root s p n r l x t y f m e) = leaves (shade (handle-of (register r b)) b) e (λ x. fewer-shades-root b g g′ v p r l t f x)
     by-view (ends-empty s p n r t e) = ended b e
     by-view (begins-sweep s p n r t e) = leaves (begin-sweep b) e (λ x. fewer-begins-sweep b g g′ v p x)
     by-view (scans-data s p i m n e) = leaves (scanned-data-box b) e (λ x. left-scans-data b g (scanned-data-box b) g′ v x p p (search) (search) (record {

@@ -19,7 +19,7 @@ use Rattle.history.proofs.Invariant.Resting.{resting-plan, resting, Fin
 use Rattle.history.proofs.Invariant.Stages.{Finds, finds-of, kept-ahead, ahead-entry}
 use Rattle.history.proofs.Marking.Alike.{Alike, alike-collector, register-alike, word-alike, shape-alike, handles-alike, layout-alike, zero-unswept, kept-alike, Onward}
 use Rattle.history.proofs.Marking.Start.{listed-none}
-use Rattle.history.proofs.View.Step.{RootsMarked}
+use Rattle.rules.proofs.View.Step.{RootsMarked}
 
 -- with next 0, in phase 1, no tuple waits for a scan
 pub none-listed : (b : Box) (g : Ghosts) → Inv b g → b .collector .phase ≡ 1 → b .collector .next ≡ 0 → Unlisted g
@@ -54,7 +54,7 @@ begin-contents : (b : Box) (g : Ghosts) → Inv b g → b .collector .phase ≡ 
 unfolding begin-sweep
 begin-contents b g i e z roots =
     record {
-      roots-kept = λ r l n. surviving (kept-ahead b g (handle-of (register r b)) u (i .contents .roots-kept r l n)) (roots r l n);
+      roots-kept = λ r l n. surviving (kept-ahead b g (handle-of (register r b)) u (i .contents .roots-kept r l n)) (roots r l n .1);
       words-kept = inside;
     }
   where

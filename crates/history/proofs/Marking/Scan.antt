@@ -22,7 +22,7 @@ use Rattle.history.proofs.Invariant.Frame.{Next}
 use Rattle.history.proofs.Invariant.Stages.{Scanning, scanning-of, Adding, adding-of, kept-ahead, ahead-entry}
 use Rattle.history.proofs.Marking.Alike.{Alike, alike-collector, word-alike, Black, Relisted, with-scans, unswept-scans, Onward, onward-next, onward-alike, relists}
 use Rattle.history.proofs.Marking.Shade.{shade-alike, shade-numbers, shade-mark, shade-scans, shade-inv}
-use Rattle.history.proofs.View.Boxes.{scanned-data-box, scanned-pointer-box}
+use Rattle.rules.proofs.View.Boxes.{scanned-data-box, scanned-pointer-box}
 
 -- ---- the tuple under the scan
 

@@ -21,7 +21,7 @@ use Rattle.history.proofs.Invariant.Frame.{Next}
 use Rattle.history.proofs.Invariant.Stages.{Rests, rests-of, Finds, finds-of, kept-ahead}
 use Rattle.history.proofs.Marking.Alike.{alike-collector, none-wait, unswept-scans, Onward, onward-next, onward-alike, relists}
 use Rattle.history.proofs.Marking.Shade.{shade-alike, shade-numbers, shade-scans, shade-inv}
-use Rattle.history.proofs.View.Boxes.{rested-box}
+use Rattle.rules.proofs.View.Boxes.{rested-box}
 
 -- ---- 0 Rest
 

@@ -16,7 +16,7 @@ use Rattle.history.proofs.Invariant.Frame.{Next}
 use Rattle.history.proofs.Moving.Tuple.{Bounds, bounds, Turn, earlier, now, later, turn}
 use Rattle.history.proofs.Moving.Within.{Within, within}
 use Rattle.history.proofs.Invariant.Stages.{AtClear, at-clear}
-use Rattle.history.proofs.View.Boxes.{cleared-box}
+use Rattle.rules.proofs.View.Boxes.{cleared-box}
 
 elsewhere : (b : Box) (a : ℕ) → a ≢ b .collector .src + b .collector .index → word-at a (cleared-box b) ≡ word-at a b
 elsewhere b a n = put-other (b .collector .src + b .collector .index) (data-word 0) b a n

@@ -12,7 +12,7 @@ use Rattle.history.proofs.Invariant.Frame.{Next}
 use Rattle.history.proofs.Moving.Tuple.{Turn, earlier, now, later, turn}
 use Rattle.history.proofs.Moving.Within.{Within, within}
 use Rattle.history.proofs.Invariant.Stages.{AtRead, at-read}
-use Rattle.history.proofs.View.Boxes.{copied-box}
+use Rattle.rules.proofs.View.Boxes.{copied-box}
 
 copies-words : (p : ℕ) (b : Box) (g : Ghosts) → Move b g → b .collector .phase ≡ 5 → 6 ≤ p → p ≤ 7 → (i : ℕ)
     → word (b .collector .tuple) i (copied-box p b) ≡ word (b .collector .tuple) i b

@@ -18,7 +18,7 @@ use Rattle.history.proofs.Invariant.Resting.{resting-plan, resting, Fin
 use Rattle.history.proofs.Moving.Tuple.{Bounds, bounds}
 use Rattle.history.proofs.Moving.Settling.{Written, settled-perm, now-settled, was-kept, Settles, settled-now, settles-shape, settles-done, settles-words, settles-unmarked, size-same, mark-same, deep-same, root-same, word-same}
 use Rattle.history.proofs.Invariant.Stages.{AtRead, at-read}
-use Rattle.history.proofs.View.Boxes.{moved-last-box}
+use Rattle.rules.proofs.View.Boxes.{moved-last-box}
 
 record Ends (b c : Box) : Type 0 where
   settles : Settles b c

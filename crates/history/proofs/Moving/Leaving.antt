@@ -15,7 +15,7 @@ use Rattle.history.proofs.Invariant.Frame.{handles-moved, Quiet, quiet-
 use Rattle.history.proofs.Moving.Tuple.{Bounds, bounds}
 use Rattle.history.proofs.Moving.Settling.{Written, settled-perm, now-settled, was-kept, Settles, settled-now, settles-shape, settles-done, settles-ahead, settles-words, settles-unmarked, size-same, mark-same, deep-same, root-same, word-same}
 use Rattle.history.proofs.Invariant.Stages.{AtRead, at-read}
-use Rattle.history.proofs.View.Boxes.{moved-box}
+use Rattle.rules.proofs.View.Boxes.{moved-box}
 
 abbrev pub left-plan : Box → Ghosts → Plan
 left-plan b g = record { done = settled-now b g; mid = []; ahead = g .plan .ahead; low = b .collector .dest + b .collector .size + 1; base = b .collector .src + b .collector .size + 1 }

@@ -13,13 +13,12 @@ use Rattle.rules.specs.Limits.{register-count}
 use Rattle.rules.specs.Parts.{Box}
 use Rattle.rules.specs.Request.{put-on-hold}
 use Rattle.rules.specs.Collector.{unheld}
-use Rattle.history.specs.Machine.{HWord, datum, pointer-to, Asked, History, fresh, register-of, size-at, word-of, made, with-hold, put-in, make, advance-by, load-from, store-to, size-to, tag-to, do-request, hold-request, grant}
+use Rattle.history.specs.Machine.{HWord, datum, pointer-to, Asked, History, fresh, register-of, size-at, word-of, made, with-hold, put-in, make, advance-by, load-from, store-to, size-to, tag-to, do-request, hold-request, grant, stored-in}
 use Rattle.history.proofs.Invariant.Statement.{Plan, Kept, Contents}
 use Rattle.history.proofs.Invariant.Frame.{quiet-calm}
 use Rattle.history.proofs.Relation.Statement.{Holds, Related}
 use Rattle.history.proofs.Relation.Still.{related-calm}
 use Rattle.history.proofs.Relation.NewTuple.{renumbered, related-made}
-use Rattle.history.proofs.Relation.Store.{stored-in}
 use Rattle.history.proofs.Asking.NewTuple.{Made}
 use Rattle.history.proofs.Asking.Registers.{hold-quiet, unheld-quiet}
 

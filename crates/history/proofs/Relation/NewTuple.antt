@@ -22,7 +22,7 @@ use Rattle.history.specs.Agreement.{handle-at}
 use Rattle.history.proofs.Invariant.Statement.{Plan, word, Kept, Contents}
 use Rattle.history.proofs.Relation.Statement.{Match, Holds, Related}
 use Rattle.history.proofs.Relation.Registers.{pointer-offset}
-use Rattle.history.proofs.View.Tests.{eq?, le?}
+use Rattle.rules.proofs.View.Tests.{eq?, le?}
 use Rattle.history.proofs.Invariant.Words.{pointer-handle}
 use Rattle.history.proofs.Asking.NewTuple.{Made}
 

@@ -17,13 +17,14 @@ use Rattle.rules.specs.Parts.{Word, Box}
 use Rattle.rules.specs.Box.{data-word, pointer, handle-of, offset-of, tag-of, names-tuple, register, put-register, size-of}
 use Rattle.rules.specs.Place.{place, read}
 use Rattle.rules.specs.Request.{same-word}
+use Rattle.rules.specs.Answers.{named, number as word-number}
 use Rattle.history.specs.Machine.{HWord, datum, pointer-to, History, register-of, tuple-of, size-at, word-of, put-in, advance-by, load-from, size-to, tag-to, same-hword, do-request}
 use Rattle.history.specs.Agreement.{handle-at, Matches, Agree}
 use Rattle.history.proofs.Invariant.Statement.{Ghosts, Inv, Kept, word}
 use Rattle.history.proofs.Relation.Statement.{Match, Holds, Related, agree}
 use Rattle.history.proofs.Relation.Still.{related-put}
-use Rattle.history.proofs.View.Tests.{true-is-not-false, eq?}
-use Rattle.history.proofs.View.Request.{named, number as word-number, place-of, There}
+use Rattle.rules.proofs.View.Tests.{true-is-not-false, eq?}
+use Rattle.rules.proofs.View.Request.{place-of, There}
 use Rattle.history.proofs.Invariant.Words.{pointer-handle, names-flag}
 
 -- ---- words

@@ -93,7 +93,7 @@ module _ (b : Box) (p : Plan) (m : History) (given : List ℕ) (number : ℕ →
       (record {
         size-agrees = h .size-same;
         tag-agrees = h .tag-same;
-        words-agree = λ k l. let u : k < size-of (x .handle) b = subst (λ (z : ℕ). k < z) (sym (h .size-same)) l in matched (word (x .handle) (k + 1) b) (word-of (number (x .handle)) k m) (λ y. i .words-kept (x .handle) (x .kept) k u y .0) (h .words-match k u);
+        words-agree = λ k l. let u : k < size-of (x .handle) b = omega (arith, h .size-same) in matched (word (x .handle) (k + 1) b) (word-of (number (x .handle)) k m) (λ y. i .words-kept (x .handle) (x .kept) k u y .0) (h .words-match k u);
       }))
 
   no-nil : (n : ℕ) → Keeps b p number n → handle-at n given ≢ 0

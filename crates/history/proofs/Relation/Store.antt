@@ -15,21 +15,18 @@ use Rattle.rules.specs.declared.kinds.Request.the-variants.{Store}
 use Rattle.rules.specs.Limits.{register-count}
 use Rattle.rules.specs.Parts.{Word, Box}
 use Rattle.rules.specs.Box.{tag-of, register, size-of}
-use Rattle.history.specs.Machine.{HWord, datum, pointer-to, HTuple, History, nil-tuple, register-of, tuple-of, size-at, word-of, made, rewrite-tuple, set-word, store-to, do-request}
+use Rattle.rules.specs.Answers.{named, number as word-number}
+use Rattle.history.specs.Machine.{HWord, datum, pointer-to, HTuple, History, nil-tuple, register-of, tuple-of, size-at, word-of, made, rewrite-tuple, set-word, store-to, do-request, stored-in}
 use Rattle.history.specs.Agreement.{handle-at}
 use Rattle.history.proofs.Invariant.Statement.{Plan, Ghosts, Inv, word, Kept}
 use Rattle.history.proofs.Relation.Statement.{Match, Holds, Related}
 use Rattle.history.proofs.Relation.Registers.{pointer-not-datum, inside-both}
-use Rattle.history.proofs.View.Tests.{eq?}
-use Rattle.history.proofs.View.Request.{named, number as word-number, There}
+use Rattle.rules.proofs.View.Tests.{eq?}
+use Rattle.rules.proofs.View.Request.{There}
 use Rattle.history.proofs.Invariant.Words.{names-flag}
 use Rattle.history.proofs.Asking.Write.{Stored}
 
 -- ---- the history machine with a word changed
-
--- word k of tuple number i becomes v
-abbrev pub stored-in : ℕ → ℕ → HWord → History → History
-stored-in i k v m = record { registers = m .registers; tuples = set-word i k v (m .tuples); hold = m .hold }
 
 length-set-word : (i k : ℕ) (v : HWord) (ts : List HTuple) → length (set-word i k v ts) ≡ length ts
 unfolding set-word

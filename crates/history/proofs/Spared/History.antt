@@ -15,9 +15,9 @@ use lib.Seq.{getD-set-same, getD-set-other, set-out}
 use Rattle.rules.specs.declared.kinds.Request.{Request}
 use Rattle.rules.specs.declared.kinds.Request.the-variants.{Setd, Nil, Move, Advance, Getm, Load, Store, Size, Tag, Same}
 use Rattle.rules.specs.Limits.{register-count}
-use Rattle.history.specs.Machine.{HWord, datum, pointer-to, HTuple, History, register-of, tuple-of, size-at, word-of, made, put-in, make, rewrite-tuple, advance-by, load-from, store-to, size-to, tag-to, same-hword, do-request}
+use Rattle.history.specs.Machine.{HWord, datum, pointer-to, HTuple, History, register-of, tuple-of, size-at, word-of, made, put-in, make, rewrite-tuple, advance-by, load-from, store-to, size-to, tag-to, same-hword, do-request, stored-in}
 use Rattle.history.proofs.Relation.NewTuple.{made-make, tuple-old, tuple-new}
-use Rattle.history.proofs.Relation.Store.{stored-in, made-stored, tuple-stored, tuple-not-stored}
+use Rattle.history.proofs.Relation.Store.{made-stored, tuple-stored, tuple-not-stored}
 use Rattle.history.proofs.Spared.Tracked.{Spared, made-since, size-beyond}
 use Rattle.history.proofs.Census.Reach.{target}
 

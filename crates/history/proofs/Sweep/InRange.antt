@@ -13,7 +13,7 @@ use Rattle.history.proofs.Invariant.Statement.{Ghosts, Inv}
 use Rattle.history.proofs.Lists.Laid.{laid-le}
 use Rattle.history.proofs.Sweep.Ghosts.{Scanned, scanned, Zeroed, zeroed-view}
 use Rattle.history.proofs.Sweep.Tuple.{entry, end-below-top, more-behind}
-use Rattle.history.proofs.View.Boxes.{swept-after}
+use Rattle.rules.proofs.View.Boxes.{swept-after}
 
 -- ---- phase 4
 

@@ -19,7 +19,7 @@ use Rattle.history.proofs.Invariant.Frame.{SameShape, shape-same, handl
 use Rattle.history.proofs.Invariant.Resting.{resting-plan}
 use Rattle.history.proofs.Sweep.Tuple.{ahead-other, at-src, control-at-src, behind-laid, live-if-marked, unmarked-other, still-unmarked, settled-unmarked}
 use Rattle.history.proofs.Sweep.Ghosts.{no-scans, sweep-plan, sweep-ghosts, unlisted, scan-ghosts, Scanned, scanned, next-at, Ended, ended-at, rooms-none, swept-marks, plain-quiet, next-tuple}
-use Rattle.history.proofs.View.Boxes.{kept-box, kept-last-box, swept-after}
+use Rattle.rules.proofs.View.Boxes.{kept-box, kept-last-box, swept-after}
 
 -- the plan after it
 abbrev kept-plan : Box → List ℕ → List ℕ → Plan

@@ -17,7 +17,7 @@ use Rattle.history.proofs.Lists.Laid.{laid-frame, rooms-one, marked-roo
 use Rattle.history.proofs.Invariant.Frame.{SameShape, shape-same, handles-moved, Quiet, quiet-contents, quiet-calm, Next}
 use Rattle.history.proofs.Sweep.Ghosts.{no-scans, scan-ghosts, Scanned, scanned, next-at, swept-marks, plain-quiet}
 use Rattle.history.proofs.Sweep.Tuple.{ahead-other, at-src, control-at-src, behind-laid, dest-below-src, live-if-marked, unmarked-here, unmarked-other, still-unmarked}
-use Rattle.history.proofs.View.Boxes.{move-begun-box, swept-after}
+use Rattle.rules.proofs.View.Boxes.{move-begun-box, swept-after}
 
 abbrev move-begun-plan : Box → List ℕ → List ℕ → Plan
 move-begun-plan b ds hs = record { done = ds; mid = b .collector .tuple ∷ []; ahead = hs; low = b .collector .dest; base = swept-after b }

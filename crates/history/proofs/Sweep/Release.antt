@@ -2,7 +2,7 @@
 -- it or begin to zero its words. It was not kept, so no kept tuple changes, and every group is read off the invariant before.
 -- Assumes nothing.
 use Prim.Native.Nat.{ℕ, _+_, _-_, _≤_, _<_}
-use mathlib.Core.Bool.{true, false, false≢true}
+use mathlib.Core.Bool.{false, false≢true}
 use mathlib.Core.List.{List, _∷_}
 use mathlib.Core.Logic.{_≢_, inl, inr}
 use mathlib.Core.Path.{_≡_, refl, sym, _∙_, subst}
@@ -19,7 +19,7 @@ use Rattle.history.proofs.Lists.Laid.{laid-frame, marked-rooms-frame}
 use Rattle.history.proofs.Invariant.Frame.{SameShape, shape-same, handles-moved, Quiet, quiet-contents, quiet-calm, Next}
 use Rattle.history.proofs.Sweep.Ghosts.{no-scans, sweep-plan, sweep-ghosts, unlisted, scan-ghosts, Scanned, scanned, next-at, rooms-none, swept-marks, Plain, plain-quiet, next-tuple}
 use Rattle.history.proofs.Sweep.Tuple.{in-links, not-free, behind-laid, dest-below-src, live-if-unmarked, more-behind}
-use Rattle.history.proofs.View.Boxes.{released-box, zero-begun-box, swept-after}
+use Rattle.rules.proofs.View.Boxes.{released-box, zero-begun-box, swept-after}
 
 -- ---- what the two boxes share: the tuple is freed, and those behind it lie ahead
 

@@ -16,7 +16,7 @@ use Rattle.history.proofs.Invariant.Statement.{Inv, Control, Laid, mark
 use Rattle.history.proofs.Lists.Handles.{member-right, member-cases, member-differs, Parts, parts}
 use Rattle.history.proofs.Lists.Laid.{laid-le, laid-rooms, marked-rooms-marked, marked-rooms-unmarked, marked-rooms-le}
 use Rattle.history.proofs.Sweep.Ghosts.{scan-ghosts, rooms-none, live-swept}
-use Rattle.history.proofs.View.Boxes.{swept-after}
+use Rattle.rules.proofs.View.Boxes.{swept-after}
 
 module _ (b : Box) (ds hs free : List ℕ) (v : Inv b (scan-ghosts b ds hs free)) where
   -- ---- its entry

@@ -20,7 +20,7 @@ use Rattle.history.proofs.Lists.Laid.{laid-le, laid-bounds, laid-frame,
 use Rattle.history.proofs.Invariant.Frame.{SameShape, shape-same, handles-same, handles-moved, layout-same, marks-same, kept-same, Quiet, quiet-contents, quiet-calm, Next}
 use Rattle.history.proofs.Invariant.Resting.{resting-plan}
 use Rattle.history.proofs.Sweep.Ghosts.{no-scans, sweep-ghosts, unlisted, zero-ghosts, Zeroed, zeroed-view, next-at, Ended, ended-at, rooms-none, marked-rooms-nil, live-swept, kept-swept, plain-quiet, next-tuple}
-use Rattle.history.proofs.View.Boxes.{zeroed-last-box}
+use Rattle.rules.proofs.View.Boxes.{zeroed-last-box}
 
 -- ---- a word becomes data 0
 

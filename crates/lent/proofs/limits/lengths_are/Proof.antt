@@ -1,7 +1,6 @@
 -- `sound::lengths_are` meets its contract: each return computes the definition with the tests that led there. Assumes nothing.
 use borrow.Author.Tests.{eq-eqb, ne-eqb}
 use Rattle.lent.proofs.Lengths.{lengths-by}
-use borrow.Author.Needs.{needs}
 use Rattle.lent.proofs.limits.lengths_are.Statement.{statement}
 use Rattle.lent.proofs.limits.lengths_are.Tie as tie
 

@@ -1,11 +1,10 @@
 -- `make` meets its contract: the struct that the new tuple leaves is put back, and the register points to it. Assumes nothing.
-use Prim.Native.Nat.{ℕ, _+_, _<_, _≤_}
-use mathlib.Core.Path.{_≡_, refl, sym, _∙_, ap}
+use mathlib.Core.Path.{_≡_, refl, _∙_, ap}
 use denote.Ref.{now}
 use lib.ListN.{length}
 use native.Mathlib.Omega.{arith}
 use Rattle.rules.specs.Parts.{Registers, Box}
-use Rattle.rules.proofs.Kept.{Outline, outline}
+use Rattle.rules.proofs.Kept.{Outline}
 use Rattle.collector.specs.declared.state.State.{State}
 use Rattle.collector.specs.Boxed.{boxed}
 use Rattle.lent.specs.Lent.{state-of, registers-of}

@@ -3,8 +3,6 @@ use Rattle.memory.proofs.Fills.{link-nil, link-next, link-last}
 use borrow.Author.Needs.{needs}
 use Rattle.memory.proofs.fill.first_link.Statement.{statement}
 use Rattle.memory.proofs.fill.first_link.Tie as tie
-use Rattle.memory.proofs.fill.first_link.Reads as reads
-use Rattle.memory.proofs.fill.first_link.Lts as lts
 
 returns : tie.Need-returns
 returns c = link-nil _ _ (c .if1 .taken)

@@ -1,14 +1,13 @@
 -- `rule` meets its contract: the rule of each phase. Assumes nothing.
-use Prim.Native.Nat.{ℕ, _≤_, _<_}
-use mathlib.Core.Path.{_≡_, refl, sym, _∙_, ap}
+use mathlib.Core.Path.{refl}
 use native.Mathlib.Omega.{arith}
 use denote.Ref.{now}
 use Rattle.rules.specs.Parts.{Box}
-use Rattle.rules.specs.Collector.{rest, mark-next, mark-scan, mark-add, sweep-scan, sweep-read, sweep-clear, sweep-write, sweep-zero, rule-of}
+use Rattle.rules.specs.Collector.{sweep-clear, sweep-write, rule-of}
 use Rattle.rules.proofs.Sizes.{sound-lengths, sound-ranges, sound-phase}
-use Rattle.collector.proofs.Granting.{calm-reply, calm-grants, rest-calm, mark-scan-calm, mark-add-calm, sweep-clear-calm, sweep-write-calm}
+use Rattle.collector.proofs.Granting.{calm-reply, calm-grants, sweep-clear-calm, sweep-write-calm}
 use Rattle.lent.specs.Lent.{state-of, lent}
-use Rattle.phases.proofs.Picking.{left-three, left-eight, rule-at}
+use Rattle.phases.proofs.Picking.{left-eight, rule-at}
 use borrow.Author.Needs.{needs}
 use Rattle.phases.proofs.choice.rule.Statement.{statement}
 use Rattle.phases.proofs.choice.rule.Tie as tie

@@ -1,12 +1,11 @@
 -- `first_root` meets its contract. The loop's invariant: what a look at all registers finds is what a look from r on does. The
 -- measure is the number of registers left. Assumes nothing.
 use Prim.Native.Nat.{ℕ, _≤_, _-_}
-use mathlib.Core.Bool.{Bool, true, false}
+use mathlib.Core.Bool.{true}
 use mathlib.Core.Path.{_≡_, refl, sym, _∙_, ap}
-use Rattle.rules.specs.Parts.{Word, Registers, Box}
-use Rattle.rules.specs.Box.{register, handle-of}
+use Rattle.rules.specs.Parts.{Word, Box}
+use Rattle.rules.specs.Box.{handle-of}
 use Rattle.rules.specs.Collector.{look-from}
-use Rattle.collector.specs.Boxed.{word-of}
 use Rattle.collector.specs.Decide.{found-as}
 use Rattle.lent.specs.Lent.{registers-of, register-in}
 use Rattle.phases.specs.Passing.{passed-over}

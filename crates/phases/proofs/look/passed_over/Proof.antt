@@ -1,10 +1,8 @@
 -- `passed_over` equals its definition, by its cases. Assumes nothing.
-use mathlib.Core.Path.{_≡_, sym, _∙_, ap}
+use mathlib.Core.Path.{sym, _∙_, ap}
 use mathlib.Core.Bool.{Bool, false}
 use mathlib.Core.List.{List}
-use native.Mathlib.Omega.{arith}
-use denote.Ref.{now}
-use Prim.Native.Nat.{ℕ, _<_, _≤_}
+use Prim.Native.Nat.{_<_, _≤_}
 use lib.ListN.{getD}
 use Rattle.collector.specs.Boxed.{word-of}
 use Rattle.phases.proofs.Looking.{passes-plain, passes-marked, stops-far}

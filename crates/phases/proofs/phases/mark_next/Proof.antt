@@ -1,5 +1,4 @@
 -- The phase `mark_next` on the lent parts meets its contract: its method's promise, and what is put back. Assumes nothing.
-use mathlib.Core.List.{[]}
 use mathlib.Core.Path.{_≡_, refl, ap}
 use denote.Ref.{now}
 use lib.ListN.{length}

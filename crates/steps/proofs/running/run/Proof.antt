@@ -1,11 +1,9 @@
 -- `run` equals the definition `run`. The loop's invariant: the box has its sizes and lengths and is sound while budget is left, and what
 -- the steps done and the budget left give together is what the whole budget gives. The measure is what is left. Assumes nothing.
-use Prim.Native.Nat.{ℕ, _+_, _^_, _≤_, _<_}
+use Prim.Native.Nat.{_+_, _^_, _≤_, _<_}
 use mathlib.Core.Bool.{true}
-use mathlib.Core.Path.{_≡_, refl, sym, _∙_, ap}
-use native.Mathlib.Omega.{arith}
+use mathlib.Core.Path.{_≡_, refl, _∙_, ap}
 use denote.Ref.{now}
-use lib.ListN.{length}
 use Rattle.rules.specs.Parts.{Box}
 use Rattle.rules.specs.Box.{sound}
 use Rattle.rules.proofs.Kept.{Outline, outline}

@@ -1,13 +1,6 @@
 -- `step` equals the definition `step`: the sizes first, then one step. Assumes nothing.
-use Prim.Native.Nat.{ℕ, _+_, _^_, _≤_, _<_}
-use mathlib.Core.Bool.{true}
-use mathlib.Core.Path.{_≡_, refl, sym, _∙_, ap}
-use native.Mathlib.Omega.{arith}
+use mathlib.Core.Path.{refl, sym, _∙_}
 use denote.Ref.{now}
-use lib.ListN.{length}
-use Rattle.rules.specs.Parts.{Box}
-use Rattle.rules.specs.Box.{sound}
-use Rattle.rules.proofs.Kept.{Outline, outline}
 use Rattle.lent.specs.Lent.{state-of, lent}
 use Rattle.steps.proofs.Ruling.{step-refused}
 use Rattle.steps.proofs.Runs.{stretch-one}

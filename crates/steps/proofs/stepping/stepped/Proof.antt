@@ -1,14 +1,7 @@
 -- `stepped` meets its contract: the rule, and the tuple of a request that it grants. Assumes nothing.
-use Prim.Native.Nat.{ℕ, _+_, _^_, _≤_, _<_}
-use mathlib.Core.Bool.{true}
-use mathlib.Core.Path.{_≡_, refl, sym, _∙_, ap}
-use native.Mathlib.Omega.{arith}
 use denote.Ref.{now}
-use lib.ListN.{length}
 use Rattle.rules.specs.Parts.{Box}
-use Rattle.rules.specs.Box.{sound}
 use Rattle.rules.proofs.Sizes.{sound-lengths, sound-ranges}
-use Rattle.rules.proofs.Kept.{Outline, outline}
 use Rattle.lent.specs.Lent.{state-of, lent}
 use Rattle.steps.proofs.Ruling.{step-plain, step-granted, ruled-outline, same-lengths, same-ranges}
 use borrow.Author.Needs.{needs}

@@ -1,15 +1,14 @@
 -- `steps` meets its contract. The loop's invariant: the box is sound and has its sizes and lengths, and what the steps done and the steps
 -- left give together is what all give. The measure is what is left. Assumes nothing.
-use Prim.Native.Nat.{ℕ, _+_, _^_, _≤_, _<_}
+use Prim.Native.Nat.{_+_, _^_, _≤_}
 use mathlib.Core.Bool.{true}
-use mathlib.Core.Path.{_≡_, refl, sym, _∙_, ap}
+use mathlib.Core.Path.{_≡_, refl, _∙_, ap}
 use native.Mathlib.Omega.{arith}
 use denote.Ref.{now}
-use lib.ListN.{length}
 use Rattle.rules.specs.Parts.{Box}
 use Rattle.rules.specs.Box.{sound}
 use Rattle.rules.proofs.Kept.{Outline, outline}
-use Rattle.lent.specs.Lent.{state-of, lent}
+use Rattle.lent.specs.Lent.{lent}
 use Rattle.steps.specs.Stretch.{stretch}
 use Rattle.steps.proofs.Ruling.{stepped-outline, stepped-sound}
 use Rattle.steps.proofs.Runs.{stretched, stretch-starts, stretch-turn, stretch-ends, stretch-fits, room-left}

@@ -2,8 +2,6 @@
 use Rattle.collector.proofs.Tuples.{make-nil, make-far, make-rest, make-over, make-by-rest}
 use Rattle.collector.proofs.state.State.can_make.Statement.{statement}
 use Rattle.collector.proofs.state.State.can_make.Tie as tie
-use Rattle.collector.proofs.state.State.can_make.Reads as reads
-use Rattle.collector.proofs.state.State.can_make.Lts as lts
 
 returns : tie.Need-returns
 returns c q ws fs ads ss ls ms ds = make-nil _ _ (c .if1 .taken)

@@ -7,7 +7,6 @@ use Rattle.rules.specs.Request.{no-room}
 use Rattle.collector.specs.Decide.{end-refused, with-grant}
 use Rattle.collector.proofs.Granting.{thirty-one}
 use Rattle.collector.proofs.Ending.{end-held, end-free}
-use borrow.Author.Needs.{needs}
 use Rattle.collector.proofs.state.State.end_cycle.Statement.{statement}
 use Rattle.collector.proofs.state.State.end_cycle.Tie as tie
 

@@ -1,6 +1,5 @@
 -- `State::is_entry` equals the definition `is-entry`: handle 0 is none, and else only H is left to compare with. Assumes
 -- nothing.
-use borrow.Author.Needs.{needs}
 use mathlib.Core.Path.{sym}
 use Rattle.collector.proofs.Entries.{entry-nil, entry-below}
 use Rattle.collector.proofs.state.State.is_entry.Statement.{statement}

@@ -7,7 +7,6 @@ use Rattle.collector.specs.Decide.{with-grant}
 use Rattle.collector.proofs.Granting.{thirty}
 use Rattle.collector.proofs.Moving.{leaving-within, leaving-last, leaving-inner, leave-last, leave-inner}
 use mathlib.Core.List.{[]}
-use borrow.Author.Needs.{needs}
 use Rattle.collector.proofs.state.State.leave_tuple.Statement.{statement}
 use Rattle.collector.proofs.state.State.leave_tuple.Tie as tie
 

@@ -2,8 +2,6 @@
 use Rattle.collector.proofs.Tuples.{no-handle, top-over, by-rest}
 use Rattle.collector.proofs.state.State.no_room.Statement.{statement}
 use Rattle.collector.proofs.state.State.no_room.Tie as tie
-use Rattle.collector.proofs.state.State.no_room.Reads as reads
-use Rattle.collector.proofs.state.State.no_room.Lts as lts
 
 returns : tie.Need-returns
 returns c q ws fs ads ss ls ms ds = no-handle _ _ (c .if1 .taken)

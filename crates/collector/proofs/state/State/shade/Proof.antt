@@ -1,6 +1,6 @@
 -- `State::shade` equals the definition `shade`: each way through the code is one case of it. That h can be shaded gives the
 -- index and the total their bounds. Assumes nothing.
-use Prim.Native.Nat.{_+_, _*_, _^_, _<_, _≤_}
+use Prim.Native.Nat.{_*_, _^_, _<_}
 use mathlib.Core.Bool.{true}
 use mathlib.Core.List.{[]}
 use denote.Ref.{now}

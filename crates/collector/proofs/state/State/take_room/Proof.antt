@@ -8,8 +8,6 @@ use Rattle.collector.specs.Boxed.{boxed}
 use borrow.Author.Needs.{needs}
 use Rattle.collector.proofs.state.State.take_room.Statement.{statement}
 use Rattle.collector.proofs.state.State.take_room.Tie as tie
-use Rattle.collector.proofs.state.State.take_room.Reads as reads
-use Rattle.collector.proofs.state.State.take_room.Lts as lts
 
 -- src/tuple.rt:44:20
 add-self : tie.Need-add-self

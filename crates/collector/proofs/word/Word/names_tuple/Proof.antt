@@ -3,8 +3,6 @@
 use borrow.Author.Needs.{needs}
 use Rattle.collector.proofs.word.Word.names_tuple.Statement.{statement}
 use Rattle.collector.proofs.word.Word.names_tuple.Tie as tie
-use Rattle.collector.proofs.word.Word.names_tuple.Reads as reads
-use Rattle.collector.proofs.word.Word.names_tuple.Lts as lts
 
 returns : tie.Need-returns
 returns c = rw (c .before .if1 .taken)

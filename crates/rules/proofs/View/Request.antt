@@ -2,28 +2,24 @@
 -- there and the equation for the reply. The tests are decided in the order of document 01; each leaf is the rule rewritten by the
 -- answers. Assumes nothing.
 use Prim.Native.Nat.{ℕ, _+_, _≤_, _<_}
-use mathlib.Core.Bool.{true, false, not, cond, _&&_}
+use mathlib.Core.Bool.{true, false, not, cond, _&&_, true≢false}
 use mathlib.Core.Logic.{_≢_, _⊎_, inl, inr}
-use mathlib.Core.Path.{_≡_, _∙_}
+use mathlib.Core.Path.{_≡_, refl, sym, _∙_}
 use native.Mathlib.Omega.{arith}
-use borrow.Author.Tests.{ltb-true, not-true, lt-ltb, le-ltb, le-leb, lt-leb, eq-eqb, ne-eqb}
+use borrow.Author.Tests.{ltb-true, ltb-false, eqb-false, not-true, lt-ltb, le-ltb, le-leb, lt-leb, eq-eqb, ne-eqb}
 use Rattle.rules.specs.declared.kinds.Request.{Request}
 use Rattle.rules.specs.declared.kinds.Request.the-variants.{Setd, Nil, Move, Advance, Getm, Load, Store, Size, Tag, Same}
 use Rattle.rules.specs.Limits.{half-word, register-count}
 use Rattle.rules.specs.Parts.{Word, Box}
 use Rattle.rules.specs.Box.{Reply, reply, data-word, pointer, handle-of, offset-of, tag-of, is-nil, names-tuple, register, put-register, size-of, marked, set-deep, sound}
 use Rattle.rules.specs.Place.{Place, place, in-memory, read, write, can-shade, shade}
+use Rattle.rules.specs.Answers.{holds as row-holds, passed, Entry, NoRoom, named, number, NoRegister, WrongRegister, NoWord, KindGives, RequestGives}
 use Rattle.rules.specs.Request.{new-tuple, put-on-hold, at-tuple, word-number, at-word, done, advance, getm, load, shades, shaded-first, deepened, store-word, store, size as size-rule, tag-at, tag as tag-rule, same-word, same, is-register, registers-right, carry-out, request}
-use Rattle.history.proofs.View.Tests.{and-left, and-right, le?, lt?, eq?, true?, Entry, entry?, entry-true, entry-false, Shading, shading, shaded, unshaded, shade-lost, shade-total, can-shade-marked, can-shade-unmarked, can-shade-lost, can-shade-total, shade-marked, NoRoom, Room, room?, no-room-true, no-room-false, can-make-rest, can-make-counted, can-make-lost, can-make-total}
+use Rattle.rules.proofs.Sizes.{and-left, and-right, sound-right}
+use Rattle.rules.proofs.View.Places.{out-of-memory}
+use Rattle.rules.proofs.View.Tests.{le?, lt?, eq?, true?, entry?, entry-true, entry-false, Shading, shading, shaded, unshaded, shade-lost, shade-total, can-shade-marked, can-shade-unmarked, can-shade-lost, can-shade-total, shade-marked, Room, room?, no-room-true, no-room-false, can-make-rest, can-make-counted, can-make-lost, can-make-total}
 
--- the tuple that a register points to, and the number of the word that its offset and k name
-abbrev pub named : ℕ → Box → ℕ
-named s b = handle-of (register s b)
-
-abbrev pub number : ℕ → ℕ → Box → ℕ
-number s k b = offset-of (register s b) + k
-
--- where that word is
+-- where the word is that a register's offset and k name
 abbrev pub place-of : ℕ → ℕ → Box → Place
 place-of s k b = place (named s b) (number s k b + 1) b
 
@@ -47,8 +43,8 @@ pub record There (s k : ℕ) (b : Box) : Type 0 where
 
 pub data Asked (b : Box) : Request → Type 0 where
   refuses-unsound : {q : Request} → sound b ≡ false → request q b ≡ reply b 9 → Asked b q
-  refuses : {q : Request} (a : ℕ) → a ≢ 0 → a ≢ 7 → a ≢ 9 → request q b ≡ reply b a → Asked b q
-  refuses-lost : {q : Request} → sound b ≡ true → b .hold .held ≡ false → Loss b → request q b ≡ reply b 9 → Asked b q
+  refuses : {q : Request} (a : ℕ) → a ≢ 0 → a ≢ 7 → a ≢ 9 → RequestGives q b a → request q b ≡ reply b a → Asked b q
+  refuses-lost : {q : Request} → sound b ≡ true → b .hold .held ≡ false → Loss b → RequestGives q b 9 → request q b ≡ reply b 9 → Asked b q
   -- 5, put on hold
   holds : {r n t : ℕ} → sound b ≡ true → b .hold .held ≡ false → r < register-count → n + 1 ≤ b .m → NoRoom n b
       → request (Getm r n t) b ≡ reply (put-on-hold r n t b) 7 → Asked b (Getm r n t)
@@ -200,6 +196,31 @@ store-nine : (w : Word) (h : ℕ) (p : Place) (b : Box) → shades w b ≡ true 
 unfolding store-word
 store-nine w h p b l c = simp (l, c)
 
+-- ---- the conditions of the table of answers
+
+-- a pointer is no data, and one that names a tuple is not nil
+pub no-data : (w : Word) → w .flag ≡ true → ¬ (w .flag ≡ false)
+no-data w f d = true≢false (sym f ∙ d)
+
+pub tuple-flag : (w : Word) → names-tuple w ≡ true → w .flag ≡ true
+tuple-flag w n = and-left (w .flag) (not (is-nil w)) n
+
+pub tuple-handle : (w : Word) → names-tuple w ≡ true → handle-of w ≢ 0
+tuple-handle w n = eqb-false (handle-of w) 0 (not-true (is-nil w) (and-right (w .flag) (not (is-nil w)) n))
+
+-- a word that is there, and a tuple that can't be looked up, are not outside their tuple
+pub word-inside : (s k : ℕ) (b : Box) → names-tuple (register s b) ≡ true → number s k b < size-of (named s b) b → ¬ NoWord s k b
+word-inside s k b n l (inl z) = tuple-handle (register s b) n z
+word-inside s k b n l (inr x) = omega (arith, x .1)
+
+word-lost : (s k : ℕ) (b : Box) → names-tuple (register s b) ≡ true → ¬ Entry (named s b) b → ¬ NoWord s k b
+word-lost s k b n e (inl z) = tuple-handle (register s b) n z
+word-lost s k b n e (inr x) = e (x .0)
+
+pub has-room : (n : ℕ) (b : Box) → Room n b → ¬ NoRoom n b
+has-room n b m (inl z) = m .0 z
+has-room n b m (inr l) = omega (arith, m .1)
+
 -- ---- the kinds
 
 -- what every kind is given: the request comes to its rule
@@ -207,6 +228,7 @@ record Reached (q : Request) (b : Box) : Type 0 where
   sound-is : sound b ≡ true
   free-is : b .hold .held ≡ false
   rule : request q b ≡ carry-out q b
+  rows : (a : ℕ) → KindGives q b a → RequestGives q b a
 
 advance-view : (r n : ℕ) (b : Box) → Reached (Advance r n) b → r < register-count → Asked b (Advance r n)
 unfolding carry-out advance
@@ -214,11 +236,11 @@ advance-view r n b q l = by-flag (true? (register r b .flag))
   where
     by-offset : register r b .flag ≡ true → (offset-of (register r b) + n < half-word) ⊎ (half-word ≤ offset-of (register r b) + n) → Asked b (Advance r n)
     by-offset f (inl o) = advances (q .sound-is) (q .free-is) l f o (q .rule ∙ simp (f, lt-ltb (offset-of (register r b) + n) half-word o))
-    by-offset f (inr o) = refuses 4 (omega arith) (omega arith) (omega arith) (q .rule ∙ simp (f, le-ltb (offset-of (register r b) + n) half-word o))
+    by-offset f (inr o) = refuses 4 (omega arith) (omega arith) (omega arith) (q .rows 4 (passed (no-data (register r b) f) (row-holds o refl))) (q .rule ∙ simp (f, le-ltb (offset-of (register r b) + n) half-word o))
 
     by-flag : (register r b .flag ≡ true) ⊎ (register r b .flag ≡ false) → Asked b (Advance r n)
     by-flag (inl f) = by-offset f (lt? (offset-of (register r b) + n) half-word)
-    by-flag (inr f) = refuses 2 (omega arith) (omega arith) (omega arith) (q .rule ∙ simp f)
+    by-flag (inr f) = refuses 2 (omega arith) (omega arith) (omega arith) (q .rows 2 (row-holds f refl)) (q .rule ∙ simp f)
 
 getm-view : (r n t : ℕ) (b : Box) → Reached (Getm r n t) b → r < register-count → Asked b (Getm r n t)
 unfolding carry-out getm
@@ -231,6 +253,7 @@ getm-view r n t b q l = by-size (le? (n + 1) (b .m))
         (q .rule ∙ simp (le-leb (n + 1) (b .m) z, no-room-false n b m, can-make-counted n b e p v))
     by-total z m e p (inr v) =
         refuses-lost (q .sound-is) (q .free-is) (free-total n z m e p v)
+        (q .rows 9 (passed (λ x. omega arith) (passed (has-room n b m) (row-holds (inr (p, v)) refl))))
         (q .rule ∙ simp (le-leb (n + 1) (b .m) z, no-room-false n b m, can-make-total n b e p v))
 
     by-phase : n + 1 ≤ b .m → Room n b → Entry (b .free) b → (b .collector .phase ≡ 0) ⊎ (b .collector .phase ≢ 0) → Asked b (Getm r n t)
@@ -243,6 +266,7 @@ getm-view r n t b q l = by-size (le? (n + 1) (b .m))
     by-entry z m (inl e) = by-phase z m e (eq? (b .collector .phase) 0)
     by-entry z m (inr e) =
         refuses-lost (q .sound-is) (q .free-is) (free-lost n z m e)
+        (q .rows 9 (passed (λ x. omega arith) (passed (has-room n b m) (row-holds (inl e) refl))))
         (q .rule ∙ simp (le-leb (n + 1) (b .m) z, no-room-false n b m, can-make-lost n b e))
 
     by-room : n + 1 ≤ b .m → NoRoom n b ⊎ Room n b → Asked b (Getm r n t)
@@ -251,7 +275,7 @@ getm-view r n t b q l = by-size (le? (n + 1) (b .m))
 
     by-size : (n + 1 ≤ b .m) ⊎ (b .m < n + 1) → Asked b (Getm r n t)
     by-size (inl z) = by-room z (room? n b)
-    by-size (inr z) = refuses 5 (omega arith) (omega arith) (omega arith) (q .rule ∙ simp (lt-leb (n + 1) (b .m) z))
+    by-size (inr z) = refuses 5 (omega arith) (omega arith) (omega arith) (q .rows 5 (row-holds z refl)) (q .rule ∙ simp (lt-leb (n + 1) (b .m) z))
 
 load-view : (r s k : ℕ) (b : Box) → Reached (Load r s k) b → r < register-count → s < register-count → Asked b (Load r s k)
 unfolding carry-out load word-number
@@ -264,6 +288,7 @@ load-view r s k b q l m = by-pointer (points (register s b) b)
         (q .rule ∙ simp (at-entry (register s b) b n e, word-there (named s b) (number s k b) b i p))
     by-place n e i (inr p) =
         refuses-lost (q .sound-is) (q .free-is) (place-past s m n e (number s k b + 1) (omega arith) p)
+        (q .rows 9 (passed (no-data (register s b) (tuple-flag (register s b) n)) (passed (word-inside s k b n i) (row-holds (inr (out-of-memory (named s b) (number s k b + 1) b p)) refl))))
         (q .rule ∙ simp (at-entry (register s b) b n e, word-past (named s b) (number s k b) b i p))
 
     by-number : names-tuple (register s b) ≡ true → Entry (named s b) b
@@ -271,12 +296,13 @@ load-view r s k b q l m = by-pointer (points (register s b) b)
     by-number n e (inl i) = by-place n e i (true? (in-memory (place-of s k b) b))
     by-number n e (inr i) =
         refuses 3 (omega arith) (omega arith) (omega arith)
+        (q .rows 3 (passed (no-data (register s b) (tuple-flag (register s b) n)) (row-holds (inr (e, i)) refl)))
         (q .rule ∙ simp (at-entry (register s b) b n e, word-beyond (named s b) (number s k b) b i))
 
     by-pointer : Points (register s b) b → Asked b (Load r s k)
-    by-pointer (to-data d) = refuses 2 (omega arith) (omega arith) (omega arith) (q .rule ∙ simp (at-data (register s b) b d))
-    by-pointer (to-nil f z) = refuses 3 (omega arith) (omega arith) (omega arith) (q .rule ∙ simp (at-nil (register s b) b f z))
-    by-pointer (to-lost n e) = refuses-lost (q .sound-is) (q .free-is) (handle-lost s m n e) (q .rule ∙ simp (at-lost (register s b) b n e))
+    by-pointer (to-data d) = refuses 2 (omega arith) (omega arith) (omega arith) (q .rows 2 (row-holds d refl)) (q .rule ∙ simp (at-data (register s b) b d))
+    by-pointer (to-nil f z) = refuses 3 (omega arith) (omega arith) (omega arith) (q .rows 3 (passed (no-data (register s b) f) (row-holds (inl z) refl))) (q .rule ∙ simp (at-nil (register s b) b f z))
+    by-pointer (to-lost n e) = refuses-lost (q .sound-is) (q .free-is) (handle-lost s m n e) (q .rows 9 (passed (no-data (register s b) (tuple-flag (register s b) n)) (passed (word-lost s k b n e) (row-holds (inl e) refl)))) (q .rule ∙ simp (at-lost (register s b) b n e))
     by-pointer (to-tuple n e) = by-number n e (lt? (number s k b) (size-of (named s b) b))
 
 -- the word stored is settled last, once its place is known
@@ -297,9 +323,11 @@ store-view r s k b q l m = by-pointer (points (register s b) b)
         (q .rule ∙ (f ∙ store-early (register r b) (named s b) (place-of s k b) b n (shades-early (register r b) b n a z) (can-shade-unmarked (named r b) b e t v)))
     by-stored p f (as-early n a z (shade-lost e)) =
         refuses-lost (q .sound-is) (q .free-is) (handle-lost r l n e)
+        (q .rows 9 (passed (no-data (register s b) (tuple-flag (register s b) (p .is-pointer))) (passed (word-inside s k b (p .is-pointer) (p .inside)) (row-holds (inr (n, a, z, inl e)) refl))))
         (q .rule ∙ (f ∙ store-nine (register r b) (named s b) (place-of s k b) b (shades-early (register r b) b n a z) (can-shade-lost (named r b) b e)))
     by-stored p f (as-early n a z (shade-total e t v)) =
         refuses-lost (q .sound-is) (q .free-is) (stored-total r l n a z e t v)
+        (q .rows 9 (passed (no-data (register s b) (tuple-flag (register s b) (p .is-pointer))) (passed (word-inside s k b (p .is-pointer) (p .inside)) (row-holds (inr (n, a, z, inr (t, v))) refl))))
         (q .rule ∙ (f ∙ store-nine (register r b) (named s b) (place-of s k b) b (shades-early (register r b) b n a z) (can-shade-total (named r b) b e t v)))
 
     by-place : names-tuple (register s b) ≡ true → Entry (named s b) b → number s k b < size-of (named s b) b
@@ -312,6 +340,7 @@ store-view r s k b q l m = by-pointer (points (register s b) b)
     }) (simp (at-entry (register s b) b n e, word-there (named s b) (number s k b) b i p)) (stored (register r b) b)
     by-place n e i (inr p) =
         refuses-lost (q .sound-is) (q .free-is) (place-past s m n e (number s k b + 1) (omega arith) p)
+        (q .rows 9 (passed (no-data (register s b) (tuple-flag (register s b) n)) (passed (word-inside s k b n i) (row-holds (inl (inr (out-of-memory (named s b) (number s k b + 1) b p))) refl))))
         (q .rule ∙ simp (at-entry (register s b) b n e, word-past (named s b) (number s k b) b i p))
 
     by-number : names-tuple (register s b) ≡ true → Entry (named s b) b
@@ -319,12 +348,13 @@ store-view r s k b q l m = by-pointer (points (register s b) b)
     by-number n e (inl i) = by-place n e i (true? (in-memory (place-of s k b) b))
     by-number n e (inr i) =
         refuses 3 (omega arith) (omega arith) (omega arith)
+        (q .rows 3 (passed (no-data (register s b) (tuple-flag (register s b) n)) (row-holds (inr (e, i)) refl)))
         (q .rule ∙ simp (at-entry (register s b) b n e, word-beyond (named s b) (number s k b) b i))
 
     by-pointer : Points (register s b) b → Asked b (Store r s k)
-    by-pointer (to-data d) = refuses 2 (omega arith) (omega arith) (omega arith) (q .rule ∙ simp (at-data (register s b) b d))
-    by-pointer (to-nil f z) = refuses 3 (omega arith) (omega arith) (omega arith) (q .rule ∙ simp (at-nil (register s b) b f z))
-    by-pointer (to-lost n e) = refuses-lost (q .sound-is) (q .free-is) (handle-lost s m n e) (q .rule ∙ simp (at-lost (register s b) b n e))
+    by-pointer (to-data d) = refuses 2 (omega arith) (omega arith) (omega arith) (q .rows 2 (row-holds d refl)) (q .rule ∙ simp (at-data (register s b) b d))
+    by-pointer (to-nil f z) = refuses 3 (omega arith) (omega arith) (omega arith) (q .rows 3 (passed (no-data (register s b) f) (row-holds (inl z) refl))) (q .rule ∙ simp (at-nil (register s b) b f z))
+    by-pointer (to-lost n e) = refuses-lost (q .sound-is) (q .free-is) (handle-lost s m n e) (q .rows 9 (passed (no-data (register s b) (tuple-flag (register s b) n)) (passed (word-lost s k b n e) (row-holds (inl (inl e)) refl)))) (q .rule ∙ simp (at-lost (register s b) b n e))
     by-pointer (to-tuple n e) = by-number n e (lt? (number s k b) (size-of (named s b) b))
 
 size-view : (r s : ℕ) (b : Box) → Reached (Size r s) b → r < register-count → s < register-count → Asked b (Size r s)
@@ -332,9 +362,9 @@ unfolding carry-out size-rule
 size-view r s b q l m = go (points (register s b) b)
   where
     go : Points (register s b) b → Asked b (Size r s)
-    go (to-data d) = refuses 2 (omega arith) (omega arith) (omega arith) (q .rule ∙ simp (at-data (register s b) b d))
+    go (to-data d) = refuses 2 (omega arith) (omega arith) (omega arith) (q .rows 2 (row-holds d refl)) (q .rule ∙ simp (at-data (register s b) b d))
     go (to-nil f z) = gives-nil-size (q .sound-is) (q .free-is) l m f z (q .rule ∙ simp (at-nil (register s b) b f z))
-    go (to-lost n e) = refuses-lost (q .sound-is) (q .free-is) (handle-lost s m n e) (q .rule ∙ simp (at-lost (register s b) b n e))
+    go (to-lost n e) = refuses-lost (q .sound-is) (q .free-is) (handle-lost s m n e) (q .rows 9 (passed (no-data (register s b) (tuple-flag (register s b) n)) (row-holds (tuple-handle (register s b) n, e) refl))) (q .rule ∙ simp (at-lost (register s b) b n e))
     go (to-tuple n e) = gives-size (q .sound-is) (q .free-is) l m n e (q .rule ∙ simp (at-entry (register s b) b n e))
 
 tag-view : (r s : ℕ) (b : Box) → Reached (Tag r s) b → r < register-count → s < register-count → Asked b (Tag r s)
@@ -344,21 +374,79 @@ tag-view r s b q l m = go (points (register s b) b)
     by-place : names-tuple (register s b) ≡ true → Entry (named s b) b
         → (in-memory (place (named s b) 0 b) b ≡ true) ⊎ (in-memory (place (named s b) 0 b) b ≡ false) → Asked b (Tag r s)
     by-place n e (inl p) = gives-tag (q .sound-is) (q .free-is) l m n e p (q .rule ∙ simp (at-entry (register s b) b n e, p))
-    by-place n e (inr p) = refuses-lost (q .sound-is) (q .free-is) (place-past s m n e 0 (omega arith) p) (q .rule ∙ simp (at-entry (register s b) b n e, p))
+    by-place n e (inr p) = refuses-lost (q .sound-is) (q .free-is) (place-past s m n e 0 (omega arith) p) (q .rows 9 (passed (no-data (register s b) (tuple-flag (register s b) n)) (row-holds (tuple-handle (register s b) n, inr (out-of-memory (named s b) 0 b p)) refl))) (q .rule ∙ simp (at-entry (register s b) b n e, p))
 
     go : Points (register s b) b → Asked b (Tag r s)
-    go (to-data d) = refuses 2 (omega arith) (omega arith) (omega arith) (q .rule ∙ simp (at-data (register s b) b d))
+    go (to-data d) = refuses 2 (omega arith) (omega arith) (omega arith) (q .rows 2 (row-holds d refl)) (q .rule ∙ simp (at-data (register s b) b d))
     go (to-nil f z) = gives-nil-tag (q .sound-is) (q .free-is) l m f z (q .rule ∙ simp (at-nil (register s b) b f z))
-    go (to-lost n e) = refuses-lost (q .sound-is) (q .free-is) (handle-lost s m n e) (q .rule ∙ simp (at-lost (register s b) b n e))
+    go (to-lost n e) = refuses-lost (q .sound-is) (q .free-is) (handle-lost s m n e) (q .rows 9 (passed (no-data (register s b) (tuple-flag (register s b) n)) (row-holds (tuple-handle (register s b) n, inl e) refl))) (q .rule ∙ simp (at-lost (register s b) b n e))
     go (to-tuple n e) = by-place n e (true? (in-memory (place (named s b) 0 b) b))
 
 -- ---- any request
+
+one : (r : ℕ) → is-register r ≡ true → ¬ NoRegister r
+one r e x =
+    let l : r < register-count = ltb-true r register-count e in
+    omega arith
 
 first-right : (r s : ℕ) → is-register r && is-register s ≡ true → r < register-count
 first-right r s e = ltb-true r register-count (and-left (is-register r) (is-register s) e)
 
 second-right : (r s : ℕ) → is-register r && is-register s ≡ true → s < register-count
 second-right r s e = ltb-true s register-count (and-right (is-register r) (is-register s) e)
+
+-- one of two tests fails
+one-wrong : (r s : ℕ) → is-register r && is-register s ≡ false → NoRegister r ⊎ NoRegister s
+one-wrong r s e = go (lt? r register-count) (lt? s register-count)
+  where
+    go : (r < register-count) ⊎ NoRegister r → (s < register-count) ⊎ NoRegister s → NoRegister r ⊎ NoRegister s
+    go (inr x) y = inl x
+    go (inl x) (inr y) = inr y
+    go (inl x) (inl y) = absurd (true≢false (sym both ∙ e))
+      where
+        both : is-register r && is-register s ≡ true
+        both = simp (lt-ltb r register-count x, lt-ltb s register-count y)
+
+pub both-registers : (r s : ℕ) → r < register-count → s < register-count → ¬ (NoRegister r ⊎ NoRegister s)
+both-registers r s l m (inl x) = omega arith
+both-registers r s l m (inr x) = omega arith
+
+wrong-register : (q : Request) → registers-right q ≡ false → WrongRegister q
+unfolding registers-right
+wrong-register (Setd r v) e = ltb-false r register-count e
+wrong-register (Nil r) e = ltb-false r register-count e
+wrong-register (Move r s) e = one-wrong r s e
+wrong-register (Advance r n) e = ltb-false r register-count e
+wrong-register (Getm r n t) e = ltb-false r register-count e
+wrong-register (Load r s k) e = one-wrong r s e
+wrong-register (Store r s k) e = one-wrong r s e
+wrong-register (Size r s) e = one-wrong r s e
+wrong-register (Tag r s) e = one-wrong r s e
+wrong-register (Same r s t) e = go (true? (is-register r && is-register s)) (lt? t register-count)
+  where
+    go : (is-register r && is-register s ≡ true) ⊎ (is-register r && is-register s ≡ false) → (t < register-count) ⊎ NoRegister t → (NoRegister r ⊎ NoRegister s) ⊎ NoRegister t
+    go (inr x) y = inl (one-wrong r s x)
+    go (inl x) (inr y) = inr y
+    go (inl x) (inl y) = absurd (true≢false (sym all ∙ e))
+      where
+        all : is-register r && is-register s && is-register t ≡ true
+        all = simp (x, lt-ltb t register-count y)
+
+right-register : (q : Request) → registers-right q ≡ true → ¬ WrongRegister q
+unfolding registers-right
+right-register (Setd r v) e x = one r e x
+right-register (Nil r) e x = one r e x
+right-register (Move r s) e x = both-registers r s (first-right r s e) (second-right r s e) x
+right-register (Advance r n) e x = one r e x
+right-register (Getm r n t) e x = one r e x
+right-register (Load r s k) e x = both-registers r s (first-right r s e) (second-right r s e) x
+right-register (Store r s k) e x = both-registers r s (first-right r s e) (second-right r s e) x
+right-register (Size r s) e x = both-registers r s (first-right r s e) (second-right r s e) x
+right-register (Tag r s) e x = both-registers r s (first-right r s e) (second-right r s e) x
+right-register (Same r s t) e (inl x) =
+    let u : is-register r && is-register s ≡ true = and-left (is-register r && is-register s) (is-register t) e in
+    both-registers r s (first-right r s u) (second-right r s u) x
+right-register (Same r s t) e (inr x) = one t (and-right (is-register r && is-register s) (is-register t) e) x
 
 kind-view : (q : Request) (b : Box) → registers-right q ≡ true → Reached q b → Asked b q
 unfolding registers-right carry-out same
@@ -381,12 +469,12 @@ unfolding request
 asked q b = by-sound (true? (sound b))
   where
     by-held : sound b ≡ true → registers-right q ≡ true → (b .hold .held ≡ true) ⊎ (b .hold .held ≡ false) → Asked b q
-    by-held s g (inl h) = refuses {q = q} 6 (omega arith) (omega arith) (omega arith) (simp (s, g, h))
-    by-held s g (inr f) = kind-view q b g (record { sound-is = s; free-is = f; rule = simp (s, g, f) })
+    by-held s g (inl h) = refuses {q = q} 6 (omega arith) (omega arith) (omega arith) (passed (λ n. n (sound-right b s)) (passed (right-register q g) (row-holds h refl))) (simp (s, g, h))
+    by-held s g (inr f) = kind-view q b g (record { sound-is = s; free-is = f; rule = simp (s, g, f); rows = λ a k. passed (λ n. n (sound-right b s)) (passed (right-register q g) (passed (λ h. true≢false (sym h ∙ f)) k)) })
 
     by-registers : sound b ≡ true → (registers-right q ≡ true) ⊎ (registers-right q ≡ false) → Asked b q
     by-registers s (inl g) = by-held s g (true? (b .hold .held))
-    by-registers s (inr g) = refuses {q = q} 1 (omega arith) (omega arith) (omega arith) (simp (s, g))
+    by-registers s (inr g) = refuses {q = q} 1 (omega arith) (omega arith) (omega arith) (passed (λ n. n (sound-right b s)) (row-holds (wrong-register q g) refl)) (simp (s, g))
 
     by-sound : (sound b ≡ true) ⊎ (sound b ≡ false) → Asked b q
     by-sound (inl s) = by-registers s (true? (registers-right q))

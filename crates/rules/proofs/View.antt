@@ -3,4 +3,5 @@ pub mod Tests
 pub mod Boxes
 pub mod Step
 pub mod End
+pub mod Places
 pub mod Request

@@ -3,27 +3,20 @@
 use Prim.Native.Nat.{ℕ, _+_, _≤_, _<_}
 use mathlib.Core.Bool.{Bool, true, false, _&&_}
 use mathlib.Core.Logic.{_≢_, _⊎_, inl, inr}
-use mathlib.Core.Path.{_≡_, refl, sym, subst}
+use mathlib.Core.Path.{_≡_, refl, subst}
 use native.Mathlib.Omega.{arith}
 use borrow.Author.Tests.{leb-true, leb-false, ltb-true, ltb-false, eqb-true, eqb-false, lt-ltb, le-ltb, le-leb, lt-leb, eq-eqb, ne-eqb}
 use lib.Dec.{T, leb, ltb, eqb}
 use Rattle.rules.specs.Parts.{Box}
 use Rattle.rules.specs.Box.{is-entry, size-of, marked}
 use Rattle.rules.specs.Place.{can-shade, shade}
+use Rattle.rules.specs.Answers.{Entry, NoRoom}
 use Rattle.rules.specs.Request.{no-room, collecting, can-make}
 
 -- ---- tests
 
 pub true-is-not-false : true ≢ false
 true-is-not-false e = subst T e tt
-
-pub and-left : (s t : Bool) → s && t ≡ true → s ≡ true
-and-left true t e = refl
-and-left false t e = e
-
-pub and-right : (s t : Bool) → s && t ≡ true → t ≡ true
-and-right true t e = e
-and-right false t e = absurd (true-is-not-false (sym e))
 
 pub and-false : (t : Bool) → (t && false) ≡ false
 and-false true = refl
@@ -57,9 +50,6 @@ true? true = inl refl
 true? false = inr refl
 
 -- ---- a handle that can be looked up: it is in 1 to H-1
-
-abbrev pub Entry : ℕ → Box → Type 0
-Entry h b = (1 ≤ h) × (h < b .h)
 
 pub entry? : (h : ℕ) (b : Box) → Entry h b ⊎ (¬ Entry h b)
 entry? h b = go (le? 1 h) (lt? h (b .h))
@@ -124,9 +114,6 @@ unfolding shade
 shade-marked h b t = simp t
 
 -- ---- room for a new tuple of n words: a free handle, and top + n + 1 within M
-
-abbrev pub NoRoom : ℕ → Box → Type 0
-NoRoom n b = (b .free ≡ 0) ⊎ (b .m < b .top + n + 1)
 
 abbrev pub Room : ℕ → Box → Type 0
 Room n b = (b .free ≢ 0) × (b .top + n + 1 ≤ b .m)

@@ -7,29 +7,35 @@ use mathlib.Core.Bool.{Bool, true, false, cond, _||_}
 use mathlib.Core.Logic.{_≢_, _⊎_, inl, inr}
 use mathlib.Core.Path.{_≡_, refl, sym, _∙_, ap, subst}
 use native.Mathlib.Omega.{arith}
-use borrow.Author.Tests.{leb-true, lt-ltb, le-ltb, le-leb, lt-leb, eq-eqb, ne-eqb}
-use lib.Dec.{leb, ltb}
+use borrow.Author.Tests.{lt-ltb, le-ltb, le-leb, lt-leb, eq-eqb, ne-eqb}
+use lib.Dec.{ltb}
 use Rattle.rules.specs.Limits.{register-count, last-phase}
 use Rattle.rules.specs.Parts.{Box, with-next, with-begun, with-live, with-current, with-phase}
-use Rattle.rules.specs.Box.{reply, handle-of, names-tuple, word-at, register, size-of, marked, right-sizes, sound}
+use Rattle.rules.specs.Box.{reply, handle-of, names-tuple, word-at, register, size-of, marked, sound}
+use Rattle.rules.specs.Answers.{Entry, Passed}
 use Rattle.rules.specs.Place.{shade}
 use Rattle.rules.specs.Collector.{going, to-phase, after, end-cycle, note-begun, rest, scan, unmarked, damaged, nothing, look-register, look-from, begin-sweep, end-marking, mark-root, scan-next, mark-next, scan-word, scan-current, mark-scan, mark-add, go-on, keep-in-place, start-move, free-tuple, start-zero, release, sweep-tuple, sweep-scan, leave-tuple, settle-move, finish-move, copy-word, sweep-read, sweep-clear, write-copy, sweep-write, zero-word, sweep-zero, rule-of, step}
-use Rattle.history.proofs.View.Tests.{and-right, true-is-not-false, le?, lt?, eq?, true?, Entry, entry?, entry-true, entry-false, Shading, shading, shaded, unshaded, shade-lost, shade-total, can-shade-marked, can-shade-unmarked, can-shade-lost, can-shade-total, shade-marked}
-use Rattle.history.proofs.View.Boxes.{rested-box, scanned-data-box, scanned-pointer-box, kept-last-box, kept-box, move-begun-box, released-box, zero-begun-box, copied-box, moved-last-box, moved-box, cleared-box, zeroed-last-box, swept-size, swept-after, moved-end}
+use Rattle.rules.proofs.Sizes.{sound-phase}
+use Rattle.rules.proofs.View.Tests.{true-is-not-false, le?, lt?, eq?, true?, entry?, entry-true, entry-false, Shading, shading, shaded, unshaded, shade-lost, shade-total, can-shade-marked, can-shade-unmarked, can-shade-lost, can-shade-total, shade-marked}
+use Rattle.rules.proofs.View.Boxes.{rested-box, scanned-data-box, scanned-pointer-box, kept-last-box, kept-box, move-begun-box, released-box, zero-begun-box, copied-box, moved-last-box, moved-box, cleared-box, zeroed-last-box, swept-size, swept-after, moved-end}
 
 -- ---- the transitions
 
 -- every register that points to a tuple points to a marked one
 abbrev pub RootsMarked : Box → Type 0
-RootsMarked b = (r : ℕ) → r < register-count → names-tuple (register r b) ≡ true → marked (handle-of (register r b)) b ≡ true
+RootsMarked b = (r : ℕ) → r < register-count → Passed r b
+
+-- the look passes over all registers below this one
+abbrev pub PassedBelow : ℕ → Box → Type 0
+PassedBelow r b = (q : ℕ) → q < r → Passed q b
 
 -- the ways in which a sound box answers 9, but for those at the end of a cycle
 pub data Reason (b : Box) : Type 0 where
   next-lost : b .collector .phase ≡ 1 → b .collector .next ≢ 0 → ¬ Entry (b .collector .next) b → Reason b
   root-lost : b .collector .phase ≡ 1 → b .collector .next ≡ 0
-      → (r : ℕ) → r < register-count → names-tuple (register r b) ≡ true → ¬ Entry (handle-of (register r b)) b → Reason b
+      → (r : ℕ) → r < register-count → PassedBelow r b → names-tuple (register r b) ≡ true → ¬ Entry (handle-of (register r b)) b → Reason b
   root-total : b .collector .phase ≡ 1 → b .collector .next ≡ 0
-      → (r : ℕ) → r < register-count → names-tuple (register r b) ≡ true → Entry (handle-of (register r b)) b
+      → (r : ℕ) → r < register-count → PassedBelow r b → names-tuple (register r b) ≡ true → Entry (handle-of (register r b)) b
       → marked (handle-of (register r b)) b ≡ false → b .m < b .collector .live + size-of (handle-of (register r b)) b + 1 → Reason b
   scan-past : b .collector .phase ≡ 2 → b .collector .index ≤ b .collector .size → b .m ≤ b .collector .src + b .collector .index → Reason b
   current-lost : b .collector .phase ≡ 2 → b .collector .size < b .collector .index → b .collector .current ≢ 0 → ¬ Entry (b .collector .current) b → Reason b
@@ -65,7 +71,7 @@ pub data Step (b : Box) : Type 0 where
   takes-next : sound b ≡ true → b .collector .phase ≡ 1 → b .collector .next ≢ 0 → Entry (b .collector .next) b
       → step b ≡ going (scan (b .collector .next) (with-next 0 b)) → Step b
   shades-root : sound b ≡ true → b .collector .phase ≡ 1 → b .collector .next ≡ 0
-      → (r : ℕ) → r < register-count → names-tuple (register r b) ≡ true → Entry (handle-of (register r b)) b
+      → (r : ℕ) → r < register-count → PassedBelow r b → names-tuple (register r b) ≡ true → Entry (handle-of (register r b)) b
       → marked (handle-of (register r b)) b ≡ false → b .collector .live + size-of (handle-of (register r b)) b + 1 ≤ b .m
       → step b ≡ going (shade (handle-of (register r b)) b) → Step b
   ends-empty : sound b ≡ true → b .collector .phase ≡ 1 → b .collector .next ≡ 0 → RootsMarked b → b .top ≡ 0
@@ -131,45 +137,53 @@ rest-is b = ap going (noted (b .hold .held) (with-live 0 (with-current 0 (with-n
 
 -- ---- 1 Mark next
 
+-- of the last n registers, those below r are passed over
+abbrev PassedFrom : ℕ → ℕ → Box → Type 0
+PassedFrom n r b = (q : ℕ) → register-count ≤ q + n → q < r → Passed q b
+
 -- what a look at the last n registers finds
 data Look (n : ℕ) (b : Box) : Type 0 where
-  look-root : (r : ℕ) → r < register-count → names-tuple (register r b) ≡ true → Entry (handle-of (register r b)) b
+  look-root : (r : ℕ) → r < register-count → PassedFrom n r b → names-tuple (register r b) ≡ true → Entry (handle-of (register r b)) b
       → marked (handle-of (register r b)) b ≡ false → look-from n b ≡ unmarked (handle-of (register r b)) → Look n b
-  look-lost : (r : ℕ) → r < register-count → names-tuple (register r b) ≡ true → ¬ Entry (handle-of (register r b)) b
+  look-lost : (r : ℕ) → r < register-count → PassedFrom n r b → names-tuple (register r b) ≡ true → ¬ Entry (handle-of (register r b)) b
       → look-from n b ≡ damaged → Look n b
-  look-none : ((r : ℕ) → register-count ≤ r + n → r < register-count → names-tuple (register r b) ≡ true → marked (handle-of (register r b)) b ≡ true)
-      → look-from n b ≡ nothing → Look n b
+  look-none : PassedFrom n register-count b → look-from n b ≡ nothing → Look n b
 
 -- the register that a look at the last n + 1 begins with
 abbrev first-of : ℕ → ℕ
 first-of n = register-count - suc n
 
--- one more register, passed over: what it points to, if it does, is marked
-look-later : (n : ℕ) (b : Box) → (names-tuple (register (first-of n) b) ≡ true → marked (handle-of (register (first-of n) b)) b ≡ true)
-    → look-from (suc n) b ≡ look-from n b → Look n b → Look (suc n) b
-look-later n b k e (look-root r l w h u f) = look-root r l w h u (e ∙ f)
-look-later n b k e (look-lost r l w h f) = look-lost r l w h (e ∙ f)
-look-later n b k e (look-none g f) = look-none (λ r a l w. go r a l w (eq? r (first-of n))) (e ∙ f)
+-- one more register, passed over
+passed-more : (n r : ℕ) (b : Box) → r ≤ register-count → Passed (first-of n) b → PassedFrom n r b → PassedFrom (suc n) r b
+passed-more n r b z k g q a l = go (eq? q (first-of n))
   where
-    go : (r : ℕ) → register-count ≤ r + suc n → r < register-count → names-tuple (register r b) ≡ true
-        → (r ≡ first-of n) ⊎ (r ≢ first-of n) → marked (handle-of (register r b)) b ≡ true
-    go r a l w (inl q) = subst (λ (r : ℕ). names-tuple (register r b) ≡ true → marked (handle-of (register r b)) b ≡ true) (sym q) k w
-    go r a l w (inr q) = g r (omega arith) l w
+    go : (q ≡ first-of n) ⊎ (q ≢ first-of n) → Passed q b
+    go (inl e) = subst (λ (q : ℕ). Passed q b) (sym e) k
+    go (inr e) = g q (omega arith) l
+
+look-later : (n : ℕ) (b : Box) → Passed (first-of n) b → look-from (suc n) b ≡ look-from n b → Look n b → Look (suc n) b
+look-later n b k e (look-root r l g w h u f) = look-root r l (passed-more n r b (omega arith) k g) w h u (e ∙ f)
+look-later n b k e (look-lost r l g w h f) = look-lost r l (passed-more n r b (omega arith) k g) w h (e ∙ f)
+look-later n b k e (look-none g f) = look-none (passed-more n register-count b (omega arith) k g) (e ∙ f)
+
+-- no register lies below the first of the look
+none-below : (n : ℕ) (b : Box) → PassedFrom (suc n) (first-of n) b
+none-below n b q a l = absurd (omega arith)
 
 look : (n : ℕ) (b : Box) → Look n b
 unfolding look-from look-register
-look zero b = look-none (λ r a l w. absurd (omega arith)) refl
+look zero b = look-none (λ q a l. absurd (omega arith)) refl
 look (suc n) b = by-name (look n b) (true? (names-tuple (register (first-of n) b)))
   where
     by-mark : Look n b → names-tuple (register (first-of n) b) ≡ true → Entry (handle-of (register (first-of n) b)) b
         → (marked (handle-of (register (first-of n) b)) b ≡ true) ⊎ (marked (handle-of (register (first-of n) b)) b ≡ false) → Look (suc n) b
-    by-mark l w e (inl t) = look-later n b (λ x. t) (simp (w, entry-true (handle-of (register (first-of n) b)) b e, t)) l
-    by-mark l w e (inr t) = look-root (first-of n) (omega arith) w e t (simp (w, entry-true (handle-of (register (first-of n) b)) b e, t))
+    by-mark l w e (inl t) = look-later n b (λ x. (e, t)) (simp (w, entry-true (handle-of (register (first-of n) b)) b e, t)) l
+    by-mark l w e (inr t) = look-root (first-of n) (omega arith) (none-below n b) w e t (simp (w, entry-true (handle-of (register (first-of n) b)) b e, t))
 
     by-entry : Look n b → names-tuple (register (first-of n) b) ≡ true
         → Entry (handle-of (register (first-of n) b)) b ⊎ (¬ Entry (handle-of (register (first-of n) b)) b) → Look (suc n) b
     by-entry l w (inl e) = by-mark l w e (true? (marked (handle-of (register (first-of n) b)) b))
-    by-entry l w (inr e) = look-lost (first-of n) (omega arith) w e (simp (w, entry-false (handle-of (register (first-of n) b)) b e))
+    by-entry l w (inr e) = look-lost (first-of n) (omega arith) (none-below n b) w e (simp (w, entry-false (handle-of (register (first-of n) b)) b e))
 
     by-name : Look n b → (names-tuple (register (first-of n) b) ≡ true) ⊎ (names-tuple (register (first-of n) b) ≡ false) → Look (suc n) b
     by-name l (inl w) = by-entry l w (entry? (handle-of (register (first-of n) b)) b)
@@ -179,20 +193,20 @@ mark-next-view : (b : Box) → sound b ≡ true → b .collector .phase ≡ 1 �
 unfolding mark-next scan-next mark-root end-marking
 mark-next-view b s p st = by-next (eq? (b .collector .next) 0)
   where
-    by-total : b .collector .next ≡ 0 → (r : ℕ) → r < register-count → names-tuple (register r b) ≡ true → Entry (handle-of (register r b)) b
+    by-total : b .collector .next ≡ 0 → (r : ℕ) → r < register-count → PassedBelow r b → names-tuple (register r b) ≡ true → Entry (handle-of (register r b)) b
         → marked (handle-of (register r b)) b ≡ false → look-from register-count b ≡ unmarked (handle-of (register r b))
         → (b .collector .live + size-of (handle-of (register r b)) b + 1 ≤ b .m) ⊎ (b .m < b .collector .live + size-of (handle-of (register r b)) b + 1) → Step b
-    by-total z r l w e u f (inl v) = shades-root s p z r l w e u v (st ∙ simp (eq-eqb (b .collector .next) 0 z, f, can-shade-unmarked (handle-of (register r b)) b e u v))
-    by-total z r l w e u f (inr v) = nine s (root-total p z r l w e u v) (st ∙ simp (eq-eqb (b .collector .next) 0 z, f, can-shade-total (handle-of (register r b)) b e u v))
+    by-total z r l g w e u f (inl v) = shades-root s p z r l g w e u v (st ∙ simp (eq-eqb (b .collector .next) 0 z, f, can-shade-unmarked (handle-of (register r b)) b e u v))
+    by-total z r l g w e u f (inr v) = nine s (root-total p z r l g w e u v) (st ∙ simp (eq-eqb (b .collector .next) 0 z, f, can-shade-total (handle-of (register r b)) b e u v))
 
     by-top : b .collector .next ≡ 0 → RootsMarked b → look-from register-count b ≡ nothing → (b .top ≡ 0) ⊎ (b .top ≢ 0) → Step b
     by-top z k f (inl t) = ends-empty s p z k t (st ∙ simp (eq-eqb (b .collector .next) 0 z, f, eq-eqb (b .top) 0 t))
     by-top z k f (inr t) = begins-sweep s p z k t (st ∙ simp (eq-eqb (b .collector .next) 0 z, f, ne-eqb (b .top) 0 t))
 
     by-look : b .collector .next ≡ 0 → Look register-count b → Step b
-    by-look z (look-root r l w e u f) = by-total z r l w e u f (le? (b .collector .live + size-of (handle-of (register r b)) b + 1) (b .m))
-    by-look z (look-lost r l w e f) = nine s (root-lost p z r l w e) (st ∙ simp (eq-eqb (b .collector .next) 0 z, f))
-    by-look z (look-none k f) = by-top z (λ r l w. k r (omega arith) l w) f (eq? (b .top) 0)
+    by-look z (look-root r l g w e u f) = by-total z r l (λ q m. g q (omega arith) m) w e u f (le? (b .collector .live + size-of (handle-of (register r b)) b + 1) (b .m))
+    by-look z (look-lost r l g w e f) = nine s (root-lost p z r l (λ q m. g q (omega arith) m) w e) (st ∙ simp (eq-eqb (b .collector .next) 0 z, f))
+    by-look z (look-none k f) = by-top z (λ r l. k r (omega arith) l) f (eq? (b .top) 0)
 
     by-entry : b .collector .next ≢ 0 → Entry (b .collector .next) b ⊎ (¬ Entry (b .collector .next) b) → Step b
     by-entry n (inl e) = takes-next s p n e (st ∙ simp (ne-eqb (b .collector .next) 0 n, entry-true (b .collector .next) b e))
@@ -403,11 +417,6 @@ sweep-zero-view b s p st = by-index (le? (b .collector .index) (b .collector .si
     by-index (inr i) = by-after i (le? (after b) (b .m))
 
 -- ---- any step
-
--- a sound box has a phase up to 8
-pub sound-phase : (b : Box) → sound b ≡ true → b .collector .phase ≤ last-phase
-unfolding sound
-sound-phase b s = leb-true (b .collector .phase) last-phase (and-right (right-sizes (b .m) (b .h) b) (leb (b .collector .phase) last-phase) s)
 
 step-is : (b : Box) → sound b ≡ true → step b ≡ rule-of (b .collector .phase) b
 unfolding step

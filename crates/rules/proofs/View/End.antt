@@ -6,11 +6,12 @@ use mathlib.Core.Bool.{true, false}
 use mathlib.Core.Logic.{_≢_, _⊎_, inl, inr}
 use mathlib.Core.Path.{_≡_, refl, _∙_}
 use borrow.Author.Tests.{lt-ltb, le-ltb}
 use Rattle.rules.specs.Limits.{register-count}
 use Rattle.rules.specs.Parts.{Box}
 use Rattle.rules.specs.Box.{reply}
+use Rattle.rules.specs.Answers.{Entry, NoRoom}
 use Rattle.rules.specs.Collector.{at-rest, unheld, granted, try-held, settle, end-cycle}
-use Rattle.history.proofs.View.Tests.{lt?, true?, Entry, entry?, Room, NoRoom, room?, no-room-true, no-room-false, can-make-rest, can-make-lost}
+use Rattle.rules.proofs.View.Tests.{lt?, true?, entry?, Room, room?, no-room-true, no-room-false, can-make-rest, can-make-lost}
 
 pub data Ending (found b : Box) : Type 0 where
   ends-free : b .hold .held ≡ false → end-cycle found b ≡ reply (at-rest b) 31 → Ending found b
@@ -59,6 +60,20 @@ unfolding try-held
 try-no-entry found b m r e =
     simp (no-room-false (b .hold .size) b m, lt-ltb (b .hold .register) register-count r, can-make-lost (b .hold .size) b e)
 
+-- ---- the ends that leave the memory as the rule does
+
+pub end-free : (found b : Box) → b .hold .held ≡ false → end-cycle found b ≡ reply (at-rest b) 31
+unfolding end-cycle at-rest
+end-free found b f = settle-free found (at-rest b) f
+
+pub end-held : (found b : Box) → b .hold .held ≡ true → NoRoom (b .hold .size) b → b .hold .begun ≡ false → end-cycle found b ≡ reply (at-rest b) 33
+unfolding end-cycle at-rest
+end-held found b h n g = settle-held found (at-rest b) h ∙ try-again found (at-rest b) n g
+
+end-dropped : (found b : Box) → b .hold .held ≡ true → NoRoom (b .hold .size) b → b .hold .begun ≡ true → end-cycle found b ≡ reply (unheld (at-rest b)) 8
+unfolding end-cycle at-rest
+end-dropped found b h n g = settle-held found (at-rest b) h ∙ try-last found (at-rest b) n g
+
 -- ---- any end of a cycle
 
 pub ending : (found b : Box) → Ending found b
@@ -66,8 +81,8 @@ unfolding end-cycle at-rest
 ending found b = by-held (true? (b .hold .held))
   where
     by-begun : b .hold .held ≡ true → NoRoom (b .hold .size) b → (b .hold .begun ≡ true) ⊎ (b .hold .begun ≡ false) → Ending found b
-    by-begun h n (inl g) = ends-dropped h n g (settle-held found (at-rest b) h ∙ try-last found (at-rest b) n g)
-    by-begun h n (inr g) = ends-held h n g (settle-held found (at-rest b) h ∙ try-again found (at-rest b) n g)
+    by-begun h n (inl g) = ends-dropped h n g (end-dropped found b h n g)
+    by-begun h n (inr g) = ends-held h n g (end-held found b h n g)
 
     by-register : b .hold .held ≡ true → Room (b .hold .size) b → Entry (b .free) b ⊎ (¬ Entry (b .free) b)
         → (b .hold .register < register-count) ⊎ (register-count ≤ b .hold .register) → Ending found b
@@ -82,4 +97,4 @@ ending found b = by-held (true? (b .hold .held))
 
     by-held : (b .hold .held ≡ true) ⊎ (b .hold .held ≡ false) → Ending found b
     by-held (inl h) = by-room h (room? (b .hold .size) b)
-    by-held (inr f) = ends-free f (settle-free found (at-rest b) f)
+    by-held (inr f) = ends-free f (end-free found b f)

@@ -1,0 +1,3 @@
+pub mod CCalls
+pub mod Followed
+pub mod CDemand3
