@@ -248,29 +248,42 @@ class Copy:
 
     def refutations(self, slips):
         """In place of the proofs: that demand 3 is false, by the calls of each of these slips."""
+        self.in_place_of_proofs(self.refuted(slips))
+
+    def definitions(self, *crates):
+        """The definitions of these crates, each with the path of its specs, that a refutation computes: what uses them, and their names."""
+        uses, names = [], []
+        for crate, path in crates:
+            for name in ("Limits", "Box", "Place", "Request", "Collector", "Run", "Open", "Machine", "Calls"):
+                file = os.path.join(self.where, "crates", crate, "specs", name + ".antt")
+                if os.path.exists(file):
+                    found = re.findall(r"^unfoldable pub (\S+)", read(file), re.M)
+                    names += found
+                    uses.append(f"use {path}.{name}.{{{', '.join(found)}}}")
+        return uses, names
+
+    def kinds(self):
+        """The path of the ten kinds of request."""
+        text = read(os.path.join(self.rules, "specs", "Request.antt"))
+        return "Rattle.rules.specs." + re.search(r"declared\.\w+\.Request\.the-variants", text).group(0)
+
+    def in_place_of_proofs(self, text):
+        """One file of refutations in place of the proofs of history."""
         proofs = os.path.join(self.history, "proofs")
         shutil.rmtree(proofs)
         os.makedirs(proofs)
         write(os.path.join(proofs, "Lib.antt"), "pub mod Refuted\n")
-        write(os.path.join(proofs, "Refuted.antt"), self.refuted(slips))
+        write(os.path.join(proofs, "Refuted.antt"), text)
 
     def refuted(self, slips):
-        uses, opens = [], []
-        for crate, path in (("rules", "Rattle.rules.specs"), ("history", "Rattle.history.specs")):
-            for name in ("Limits", "Box", "Place", "Request", "Collector", "Run", "Open", "Machine", "Calls"):
-                file = os.path.join(self.where, "crates", crate, "specs", name + ".antt")
-                if os.path.exists(file):
-                    names = re.findall(r"^unfoldable pub (\S+)", read(file), re.M)
-                    opens += names
-                    uses.append(f"use {path}.{name}.{{{', '.join(names)}}}")
-        kinds = re.search(r"declared\.\w+\.Request\.the-variants", read(os.path.join(self.rules, "specs", "Request.antt")))
+        uses, opens = self.definitions(("rules", "Rattle.rules.specs"), ("history", "Rattle.history.specs"))
         lines = [
             "use Prim.Native.Nat.{ℕ, _≤_, _<_}",
             "use mathlib.Core.Bool.{true, false, true≢false}",
             "use mathlib.Core.List.{List, [], _∷_}",
             "use mathlib.Core.Path.{_≡_, refl, ap}",
             "use native.Mathlib.Omega.{arith}",
-            f"use Rattle.rules.specs.{kinds.group(0)}.{{Nil, Move, Getm, Load, Store, Tag}}",
+            f"use {self.kinds()}.{{Nil, Move, Getm, Load, Store, Tag}}",
             "use Rattle.rules.specs.Parts.{Word}",
             *uses,
             "use Rattle.history.specs.Machine.{Call, ask, single-step, run-for}",

@@ -5,16 +5,12 @@ Each wrong machine is made, one at a time, in the definitions of a copy of crate
 false: from `Demand1` of one box a contradiction follows, by computing. So no proof of demand 1 can be found there, whatever its lemmas.
 Without the edits each of these proofs is refused.
 
-    tests/wrong_machines.py            the control and every machine: about a minute
+    tests/wrong_machines.py            the control and every machine: half a minute
     tests/wrong_machines.py 3 4        these alone
 
 Only definitions are looked at, and no code.
 """
-import os
-import re
-import shutil
-
-from slips import fail, one_line, read, try_all, write
+from slips import fail, one_line, try_all
 
 
 class Machine:
@@ -134,26 +130,16 @@ none-{n} (passed r (passed w z)) = w (omega arith)
 ]
 
 
-def definitions(copy):
-    """What the refutations cite of the definitions, and what they unfold."""
-    uses, opens = [], []
-    for name in ("Limits", "Box", "Place", "Request", "Collector", "Run", "Open"):
-        names = re.findall(r"^unfoldable pub (\S+)", read(os.path.join(copy.rules, "specs", name + ".antt")), re.M)
-        opens += names
-        uses.append(f"use Rattle.rules.specs.{name}.{{{', '.join(names)}}}")
-    return uses, " ".join(opens)
-
-
 def refutations(copy, machines):
     """In place of the proofs: that demand 1 is false, by the box of each of these machines."""
-    uses, opens = definitions(copy)
-    kinds = re.search(r"declared\.\w+\.Request\.the-variants", read(os.path.join(copy.rules, "specs", "Request.antt")))
+    uses, names = copy.definitions(("rules", "Rattle.rules.specs"))
+    opens = " ".join(names)
     lines = [
         "use Prim.Native.Nat.{ℕ, _≤_}",
         "use mathlib.Core.Bool.{true, false}",
         "use mathlib.Core.Path.{_≡_, refl, ap}",
         "use native.Mathlib.Omega.{arith}",
-        f"use Rattle.rules.specs.{kinds.group(0)}.{{Setd}}",
+        f"use {copy.kinds()}.{{Setd}}",
         "use Rattle.rules.specs.Parts.{Box, with-free, with-phase, with-hold, with-held}",
         *uses,
         "use Rattle.rules.specs.Answers.{holds, passed, Right, RequestGives, StepGives}",
@@ -171,11 +157,7 @@ def refutations(copy, machines):
             f"    let x : Demand1 box-{m.number} = claim box-{m.number} in",
             f"    {m.contradiction.format(n=m.number)}",
         ]
-    proofs = os.path.join(copy.history, "proofs")
-    shutil.rmtree(proofs)
-    os.makedirs(proofs)
-    write(os.path.join(proofs, "Lib.antt"), "pub mod Refuted\n")
-    write(os.path.join(proofs, "Refuted.antt"), "\n".join(lines) + "\n")
+    copy.in_place_of_proofs("\n".join(lines) + "\n")
 
 
 def definitions_stand(copy, edits):

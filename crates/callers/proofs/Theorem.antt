@@ -1,20 +1,20 @@
 -- Demand 3 of lists of C calls. The world that a caller follows is the world of a list of calls of crates/history, played from what the last
 -- opening that answered 0 found; so `demand3` speaks of it. Assumes nothing.
 use Prim.Native.Nat.{ℕ, zero, suc}
-use mathlib.Core.Bool.{Bool, true, false, cond}
 use mathlib.Core.List.{List, [], _∷_, _++_}
-use mathlib.Core.Logic.{_≢_}
+use mathlib.Core.Logic.{_≢_, _⊎_, inl, inr}
 use mathlib.Core.Option.{Option, none, some}
 use mathlib.Core.Path.{_≡_, refl, sym, _∙_, ap, subst}
 use native.Mathlib.Omega.{arith}
 use lib.Dec.{eqb·suc-zero}
 use Rattle.rules.specs.declared.kinds.Request.{Request}
 use Rattle.rules.specs.Parts.{Box}
-use Rattle.rules.specs.Box.{Reply, reply, right-sizes}
+use Rattle.rules.specs.Box.{Reply, reply}
 use Rattle.rules.specs.Request.{request}
 use Rattle.rules.specs.Collector.{step}
 use Rattle.rules.specs.Run.{Ran, run}
 use Rattle.rules.specs.Open.{opened, opening}
+use Rattle.rules.proofs.Demand1.{demand1}
 use Rattle.capi.specs.Calls.{request-of, c-asked, c-request, c-run}
 use Rattle.capi.specs.Promises.{Lent, box-of}
 use Rattle.history.specs.Machine.{Call, ask, single-step, run-for}
@@ -89,14 +89,13 @@ opened-anew m h p q e =
       box-is = refl;
     }
 
--- one that is refused leaves the box as found
+-- one that is refused answers 10, and leaves the box as found
 refused : (m h : ℕ) (b : Box) → opening m h b .answer ≢ 0 → opening m h b .box ≡ b
-unfolding opening
-refused m h b n = go (right-sizes m h b) n
+refused m h b n = go (demand1 b .opening-answers m h)
   where
-    go : (t : Bool) → cond t (reply (opened m h) 0) (reply b 10) .answer ≢ 0 → cond t (reply (opened m h) 0) (reply b 10) .box ≡ b
-    go true z = absurd (z refl)
-    go false z = refl
+    go : (opening m h b .answer ≡ 0) ⊎ (opening m h b .answer ≡ 10) → opening m h b .box ≡ b
+    go (inl e) = absurd (n e)
+    go (inr e) = demand1 b .opening-refused m h e
 
 -- and what was followed as it was
 stays : (m h r : ℕ) (b : Box) (f : Followed) → follow-open m h (reply b (suc r)) f ≡ f

@@ -6,37 +6,21 @@ use mathlib.Core.Bool.{Bool, true}
 use mathlib.Core.List.{List, [], _∷_, map}
 use mathlib.Core.Path.{_≡_, refl}
 use native.Mathlib.Omega.{arith}
-use lib.ListN.{replicate}
 use Rattle.rules.specs.declared.kinds.Request.the-variants.{Setd, Getm, Store}
-use Rattle.rules.specs.Parts.{Box, collector-zero, hold-zero}
 use Rattle.rules.specs.Limits.{in-range}
 use Rattle.rules.specs.Box.{is-entry, lengths-are, right-sizes, sound}
 use Rattle.rules.specs.Place.{being-moved, place, in-memory, read, write, can-shade, list-next, mark-live, shade}
 use Rattle.rules.specs.Request.{no-room, collecting, can-make, new-entry, take-room, new-tuple, put-on-hold, at-tuple, word-number, at-word, advance, getm, load, shades, shaded-first, deepened, store-word, store, size, tag-at, tag, same-word, same, registers-right, carry-out, request}
 use Rattle.rules.specs.Collector.{at-rest, unheld, granted, try-held, settle, end-cycle, note-begun, rest, scan, look-register, look-from, begin-sweep, end-marking, mark-root, scan-next, mark-next, scan-word, scan-current, mark-scan, mark-add, go-on, keep-in-place, start-move, free-tuple, start-zero, release, sweep-tuple, sweep-scan, leave-tuple, settle-move, finish-move, copy-word, sweep-read, sweep-clear, write-copy, sweep-write, zero-word, sweep-zero, rule-of, step}
 use Rattle.rules.specs.Run.{course, run-on, run}
+use Rattle.rules.specs.Cases.{unopened}
 use Rattle.rules.specs.Open.{opened-link, opened-links, opened, opening}
 use Rattle.history.specs.Machine.{Asked, Call, ask, single-step, run-for, fresh, make, set-word, advance-by, load-from, store-to, size-to, tag-to, same-hword, do-request, hold-request, grant, feed}
 use Rattle.history.specs.Calls.{EndedCycle, Answered, World, start, CallsInWidth, given-by, disturb, pend, log-done, log-held, log-request, cycle-step, end-log-cycle, wait-step, answer-hold, given-held, log-going, log-ended, log-granted, log-dropped, log-parts, log-step, log-steps, after-request, after-step, after-run, play-call, play}
 
--- parts of 16 words and 4 entries, filled with anything
-abbrev pub lent-parts : Box
-lent-parts =
-    record {
-      m = 0;
-      h = 0;
-      top = 9;
-      free = 9;
-      memory = record { words = replicate 16 9; flags = replicate 16 true };
-      directory = record { addresses = replicate 4 9; sizes = replicate 4 9; links = replicate 4 9; marks = replicate 4 true; deeps = replicate 4 true };
-      registers = record { words = replicate 8 9; flags = replicate 8 true };
-      collector = collector-zero;
-      hold = hold-zero;
-    }
-
--- the opening 16, 4 of these, and a list of calls after it
+-- the opening 16, 4 of the bench cases' box, and a list of calls after it
 abbrev pub after-calls : List Call → World
-after-calls calls = play calls (start (opening 16 4 lent-parts .box))
+after-calls calls = play calls (start (opening 16 4 unopened .box))
 
 -- ---- what is told of a log
 
@@ -87,7 +71,7 @@ p10 =
 
 -- ---- they are lists that demand 3 speaks of, and this is what it then speaks of
 
-pub opening-answers : opening 16 4 lent-parts .answer ≡ 0
+pub opening-answers : opening 16 4 unopened .answer ≡ 0
 unfolding in-range lengths-are right-sizes opening
 opening-answers = refl
 

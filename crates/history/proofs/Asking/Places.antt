@@ -2,7 +2,7 @@
 -- lie below low, the part already moved from low on, the part not yet moved from src + index up to base, and those ahead from base
 -- to top; within a region the layout keeps tuples apart. Assumes nothing.
 use Prim.Native.Nat.{ℕ, _+_, _≤_, _<_}
-use mathlib.Core.Bool.{false, cond, _&&_}
+use mathlib.Core.Bool.{false, cond, _&&_, and-false}
 use mathlib.Core.List.{List, [], _∷_}
 use mathlib.Core.Logic.{_≢_, _⊎_, inl, inr}
 use mathlib.Core.Path.{_≡_, refl, sym, ap, _∙_, subst}
@@ -17,7 +17,6 @@ use Rattle.history.specs.Agreement.{Member}
 use Rattle.history.proofs.Invariant.Statement.{Ghosts, Inv, word, rooms, Laid, Kept, settled, moving, unswept, surviving, Layout, Move, Stage, at-rest, finding, scanning, adding, sweeping, reading, clearing, writing, zeroing}
 use Rattle.history.proofs.Lists.Handles.{Parts, parts}
 use Rattle.history.proofs.Lists.Laid.{laid-le, laid-rooms, laid-bounds, laid-apart, rooms-one, marked-rooms-le}
-use Rattle.rules.proofs.View.Tests.{and-false}
 
 -- ---- the laws of a place
 

@@ -2,7 +2,7 @@
 -- transition meets its lemma: the invariant again, the steps left fall, the hold stays, and what is marked and kept is spared. A test
 -- that would answer 9 contradicts the invariant. Assumes nothing.
 use Prim.Native.Nat.{ℕ, _+_, _≤_, _<_}
-use mathlib.Core.Bool.{Bool, true, false}
+use mathlib.Core.Bool.{Bool, true, false, true≢false}
 use mathlib.Core.List.{List, []}
 use mathlib.Core.Logic.{_≢_, _⊎_, inl}
 use mathlib.Core.Path.{_≡_, refl, sym, _∙_, ap, subst}
@@ -19,7 +19,6 @@ use Rattle.history.proofs.Invariant.Resting.{resting, none-kept}
 use Rattle.history.proofs.Relation.Statement.{Related}
 use Rattle.history.proofs.Spared.Tracked.{Spared, Tracked, root-spared}
 use Rattle.history.proofs.Spared.Steps.{tracked-rests, tracked-marks, tracked-sweep, tracked-swept, ended-spared, shade-marked-only, scanned-spared}
-use Rattle.rules.proofs.View.Tests.{true-is-not-false}
 use Rattle.rules.proofs.View.Step.{RootsMarked, Reason, Step, view}
 use Rattle.history.proofs.Marking.Alike.{none-wait, Onward, onward-next}
 use Rattle.history.proofs.Marking.Shade.{shade-numbers}
@@ -374,7 +373,7 @@ pub stepped : (b : Box) (g : Ghosts) → Inv b g → Stepped b g
 stepped b g v = go (view b)
   where
     go : Step b → Stepped b g
-    go (Step.unsound f s) = absurd (true-is-not-false (sym (sound-box b g v) ∙ f))
+    go (Step.unsound f s) = absurd (true≢false (sym (sound-box b g v) ∙ f))
     go (Step.nine f r s) = absurd (never-reason b g v r)
     go (Step.rests f p s) = step-rests b g v p s
     go (Step.takes-next f p z e s) = step-takes-next b g v p z s

@@ -5,7 +5,7 @@
 -- comes between ends within 8 top + 2 steps (`cycle-bound`). Each by the view of the call, whose cases meet their lemmas.
 -- Assumes nothing.
 use Prim.Native.Nat.{ℕ, zero, suc, _+_, _*_, _≤_, _<_}
-use mathlib.Core.Bool.{Bool, true, false, cond}
+use mathlib.Core.Bool.{Bool, true, false, cond, true≢false}
 use mathlib.Core.List.{[]}
 use mathlib.Core.Logic.{_≢_}
 use mathlib.Core.Path.{_≡_, refl, sym, _∙_, ap, subst}
@@ -23,7 +23,6 @@ use Rattle.rules.specs.Answers.{named, number}
 use Rattle.history.specs.Calls.{RequestInWidth}
 use Rattle.history.proofs.Invariant.Statement.{Ghosts, Inv, Kept}
 use Rattle.history.proofs.Invariant.Resting.{resting}
-use Rattle.rules.proofs.View.Tests.{true-is-not-false}
 use Rattle.rules.proofs.Sizes.{and-left}
 use Rattle.rules.proofs.View.Request.{Loss, There, Asked, asked}
 use Rattle.history.proofs.Marking.Alike.{with-scans}
@@ -115,7 +114,7 @@ pub never-loss : (b : Box) (g : Ghosts) → Inv b g → Loss b → ⊥
 never-loss b g v (Loss.free-lost n z m e) = e (free-bounds b g v (m .0))
 never-loss b g v (Loss.free-total n z m e p u) = omega (arith, live-fits b g v n (m .1))
 never-loss b g v (Loss.handle-lost s l n e) = e (register-bounds b g v s l n)
-never-loss b g v (Loss.place-past s l n e i u f) = true-is-not-false (sym (place-in-memory b g v (named s b) i (v .contents .roots-kept s l n) u) ∙ f)
+never-loss b g v (Loss.place-past s l n e i u f) = true≢false (sym (place-in-memory b g v (named s b) i (v .contents .roots-kept s l n) u) ∙ f)
 never-loss b g v (Loss.stored-total r l n a z e t u) = omega (arith, root-room b g v z r l n t)
 
 pub never-nine-request : (q : Request) (b : Box) (g : Ghosts) → Inv b g → request q b .answer ≢ 9
@@ -125,7 +124,7 @@ never-nine-request q b g v = go (asked q b)
     done {r} {c} e = answers r c 0 9 e (omega arith)
 
     go : {q : Request} → Asked b q → request q b .answer ≢ 9
-    go (Asked.refuses-unsound f e) = absurd (true-is-not-false (sym (sound-box b g v) ∙ f))
+    go (Asked.refuses-unsound f e) = absurd (true≢false (sym (sound-box b g v) ∙ f))
     go (Asked.refuses {q} a x y z o e) = answers (request q b) b a 9 e z
     go (Asked.refuses-lost f h x o e) = absurd (never-loss b g v x)
     go (Asked.holds {r} {n} {t} f h l z m e) = answers (request (Getm r n t) b) (put-on-hold r n t b) 7 9 e (omega arith)

@@ -1,7 +1,7 @@
 -- Where a word of a tuple is, as laws of `word`, one for each case of document 01's rule. Each follows from the tests of
 -- `place` at the facts in hand. Then the laws of a word put at an address, and of pointers. Assumes nothing.
 use Prim.Native.Nat.{ℕ, _+_, _≤_, _<_}
-use mathlib.Core.Bool.{true, false, not}
+use mathlib.Core.Bool.{true, false, not, and-false}
 use mathlib.Core.Logic.{_≢_}
 use mathlib.Core.Path.{_≡_}
 use lib.ListN.{length}
@@ -13,7 +13,6 @@ use Rattle.rules.specs.Parts.{Word, Box}
 use Rattle.rules.specs.Box.{word-at, put, address, handle-of, pointer, names-tuple, is-nil}
 use Rattle.rules.specs.Place.{being-moved, place, read}
 use Rattle.history.proofs.Invariant.Statement.{word}
-use Rattle.rules.proofs.View.Tests.{and-false}
 use Rattle.rules.proofs.Sizes.{and-left}
 
 -- a tuple that is not being moved is at its address

@@ -2,7 +2,7 @@
 -- that the history machine puts there. A word of the history machine that matches a pointer is a pointer; what it names is the
 -- number of a kept tuple, and so has its size, tag and words. Assumes nothing.
 use Prim.Native.Nat.{ℕ, _+_, _*_, _/_, _%_, _<_}
-use mathlib.Core.Bool.{Bool, true, cond, _&&_, and-true, and-false}
+use mathlib.Core.Bool.{Bool, true, cond, _&&_, and-true, and-false, true≢false}
 use mathlib.Core.List.{List}
 use mathlib.Core.Logic.{_≢_, _⊎_, inl, inr}
 use mathlib.Core.Path.{_≡_, refl, sym, _∙_, ap, ap₂, subst}
@@ -23,7 +23,7 @@ use Rattle.history.specs.Agreement.{handle-at, Matches, Agree}
 use Rattle.history.proofs.Invariant.Statement.{Ghosts, Inv, Kept, word}
 use Rattle.history.proofs.Relation.Statement.{Match, Holds, Related, agree}
 use Rattle.history.proofs.Relation.Still.{related-put}
-use Rattle.rules.proofs.View.Tests.{true-is-not-false, eq?}
+use Rattle.rules.proofs.View.Tests.{eq?}
 use Rattle.rules.proofs.View.Request.{place-of, There}
 use Rattle.history.proofs.Invariant.Words.{pointer-handle, names-flag}
 
@@ -31,7 +31,7 @@ use Rattle.history.proofs.Invariant.Words.{pointer-handle, names-flag}
 
 -- data matches no pointer
 pub pointer-not-datum : (number : ℕ → ℕ) (w : Word) (v : ℕ) → w .flag ≡ true → ¬ Match number w (datum v)
-pointer-not-datum number w v f e = true-is-not-false (sym f ∙ e .0)
+pointer-not-datum number w v f e = true≢false (sym f ∙ e .0)
 
 pub pointer-offset : (h o : ℕ) → o < half-word → offset-of (pointer h o) ≡ o
 pointer-offset h o l = omega arith

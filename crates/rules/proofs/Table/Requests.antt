@@ -63,60 +63,64 @@ made r n t b v u l a f g e y = came (Getm r n t) b 0 v u (no-register r l) (pass
     lost (inl z) (inr x) = x .0 z
     lost (inr z) (inr x) = omega (arith, x .1)
 
+-- a reply's answer is the request's
+by : (q : Request) (b : Box) {c : Box} {a : ℕ} → request q b ≡ reply c a → RequestGives q b a → RequestGives q b (request q b .answer)
+by q b e g = subst (RequestGives q b) (sym (ap (λ (r : Reply). r .answer) e)) g
+
 gives : (q : Request) (b : Box) → Asked b q → RequestGives q b (request q b .answer)
-gives q b (Asked.refuses-unsound s e) = subst (RequestGives q b) (sym (ap (λ (r : Reply). r .answer) e)) (row-holds (unsound-wrong b s) refl)
-gives q b (Asked.refuses a x y z g e) = subst (RequestGives q b) (sym (ap (λ (r : Reply). r .answer) e)) g
-gives q b (Asked.refuses-lost s u o g e) = subst (RequestGives q b) (sym (ap (λ (r : Reply). r .answer) e)) g
+gives q b (Asked.refuses-unsound s e) = by q b e (row-holds (unsound-wrong b s) refl)
+gives q b (Asked.refuses a x y z g e) = by q b e g
+gives q b (Asked.refuses-lost s u o g e) = by q b e g
 gives q b (Asked.holds {r} {n} {t} s u l a o e) =
-    subst (RequestGives (Getm r n t) b) (sym (ap (λ (r : Reply). r .answer) e))
+    by (Getm r n t) b e
     (came (Getm r n t) b 7 s u (no-register r l) (passed (λ x. omega arith) (row-holds o refl)))
 gives q b (Asked.sets-data {r} {v} s u l e) =
-    subst (RequestGives (Setd r v) b) (sym (ap (λ (r : Reply). r .answer) e))
+    by (Setd r v) b e
     (came (Setd r v) b 0 s u (no-register r l) (given refl))
 gives q b (Asked.sets-nil {r} s u l e) =
-    subst (RequestGives (Nil r) b) (sym (ap (λ (r : Reply). r .answer) e))
+    by (Nil r) b e
     (came (Nil r) b 0 s u (no-register r l) (given refl))
 gives q b (Asked.moves {r} {s = i} s u l m e) =
-    subst (RequestGives (Move r i) b) (sym (ap (λ (r : Reply). r .answer) e))
+    by (Move r i) b e
     (came (Move r i) b 0 s u (both-registers r i l m) (given refl))
 gives q b (Asked.advances {r} {n} s u l f o e) =
-    subst (RequestGives (Advance r n) b) (sym (ap (λ (r : Reply). r .answer) e))
+    by (Advance r n) b e
     (came (Advance r n) b 0 s u (no-register r l) (passed (no-data (register r b) f) (passed (λ x. omega arith) (given refl))))
 gives q b (Asked.makes {r} {n} {t} s u l a f g y p e) =
-    subst (RequestGives (Getm r n t) b) (sym (ap (λ (r : Reply). r .answer) e)) (made r n t b s u l a f g y p)
+    by (Getm r n t) b e (made r n t b s u l a f g y p)
 gives q b (Asked.loads {r} {s = i} {k} s u l m th e) =
-    subst (RequestGives (Load r i k) b) (sym (ap (λ (r : Reply). r .answer) e))
+    by (Load r i k) b e
     (came (Load r i k) b 0 s u (both-registers r i l m) (passed (no-tuple-data i b (th .is-pointer)) (passed (word-inside i k b (th .is-pointer) (th .inside)) (passed (word-there i k b th) (given refl)))))
 gives q b (Asked.stores-data {r} {s = i} {k} s u l m th d e) =
-    subst (RequestGives (Store r i k) b) (sym (ap (λ (r : Reply). r .answer) e)) (stored r i k b s u l m th (λ x. true≢false (sym (x .0) ∙ d)))
+    by (Store r i k) b e (stored r i k b s u l m th (λ x. true≢false (sym (x .0) ∙ d)))
 gives q b (Asked.stores-late {r} {s = i} {k} s u l m th d p e) =
-    subst (RequestGives (Store r i k) b) (sym (ap (λ (r : Reply). r .answer) e)) (stored r i k b s u l m th (late p))
+    by (Store r i k) b e (stored r i k b s u l m th (late p))
   where
     late : (b .collector .phase ≡ 0) ⊎ (3 < b .collector .phase) → ¬ ShadeLost (register r b) b
     late (inl z) x = omega (arith, x .1)
     late (inr z) x = omega (arith, x .2)
 gives q b (Asked.stores-marked {r} {s = i} {k} s u l m th d p a y t e) =
-    subst (RequestGives (Store r i k) b) (sym (ap (λ (r : Reply). r .answer) e)) (stored r i k b s u l m th (λ x. marked-shadable (named r b) b y t (x .3)))
+    by (Store r i k) b e (stored r i k b s u l m th (λ x. marked-shadable (named r b) b y t (x .3)))
 gives q b (Asked.stores-unmarked {r} {s = i} {k} s u l m th d p a y t f e) =
-    subst (RequestGives (Store r i k) b) (sym (ap (λ (r : Reply). r .answer) e)) (stored r i k b s u l m th (λ x. unmarked-shadable (named r b) b y f (x .3)))
+    by (Store r i k) b e (stored r i k b s u l m th (λ x. unmarked-shadable (named r b) b y f (x .3)))
 gives q b (Asked.gives-size {r} {s = i} s u l m d y e) =
-    subst (RequestGives (Size r i) b) (sym (ap (λ (r : Reply). r .answer) e))
+    by (Size r i) b e
     (came (Size r i) b 0 s u (both-registers r i l m) (passed (no-tuple-data i b d) (passed (λ x. x .1 y) (given refl))))
 gives q b (Asked.gives-nil-size {r} {s = i} s u l m d y e) =
-    subst (RequestGives (Size r i) b) (sym (ap (λ (r : Reply). r .answer) e))
+    by (Size r i) b e
     (came (Size r i) b 0 s u (both-registers r i l m) (passed (no-data (register i b) d) (passed (λ x. x .0 y) (given refl))))
 gives q b (Asked.gives-tag {r} {s = i} s u l m d y p e) =
-    subst (RequestGives (Tag r i) b) (sym (ap (λ (r : Reply). r .answer) e))
+    by (Tag r i) b e
     (came (Tag r i) b 0 s u (both-registers r i l m) (passed (no-tuple-data i b d) (passed (λ x. lost (x .1)) (given refl))))
   where
     lost : ¬ ((¬ Entry (named i b) b) ⊎ OutOfMemory (named i b) 0 b)
     lost (inl x) = x y
     lost (inr x) = not-out-of-memory (named i b) 0 b p x
 gives q b (Asked.gives-nil-tag {r} {s = i} s u l m d y e) =
-    subst (RequestGives (Tag r i) b) (sym (ap (λ (r : Reply). r .answer) e))
+    by (Tag r i) b e
     (came (Tag r i) b 0 s u (both-registers r i l m) (passed (no-data (register i b) d) (passed (λ x. x .0 y) (given refl))))
 gives q b (Asked.compares {r} {s = i} {t = j} s u l m n e) =
-    subst (RequestGives (Same r i j) b) (sym (ap (λ (r : Reply). r .answer) e))
+    by (Same r i j) b e
     (came (Same r i j) b 0 s u registers (given refl))
   where
     registers : ¬ ((NoRegister r ⊎ NoRegister i) ⊎ NoRegister j)

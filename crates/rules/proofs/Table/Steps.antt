@@ -1,11 +1,11 @@
 -- The table of answers for single steps holds, and what a step that drops the hold leaves. The view's transitions are three cases: what
 -- the rule looks up, touches or forms is lost; the cycle goes on; it ends. Assumes nothing.
 use Prim.Native.Nat.{ℕ, zero, suc, _+_, _≤_, _<_}
-use mathlib.Core.Bool.{Bool, true, false, true≢false}
+use mathlib.Core.Bool.{Bool, true, false, cond, true≢false}
 use mathlib.Core.Logic.{_≢_, _⊎_, inl, inr, _↔_}
 use mathlib.Core.Path.{_≡_, refl, sym, _∙_, ap, subst}
 use native.Mathlib.Omega.{arith}
-use borrow.Author.Tests.{ne-eqb}
+use lib.Dec.{eqb}
 use Rattle.rules.specs.Limits.{register-count}
 use Rattle.rules.specs.Parts.{Box, Hold, with-hold, with-held, with-begun}
 use Rattle.rules.specs.Box.{Reply, reply, size-of, marked, names-tuple, register}
@@ -23,16 +23,7 @@ use Rattle.rules.proofs.Table.Requests.{marked-shadable, unmarked-shada
 -- ---- the box as the rule of a phase leaves it where the cycle ends
 
 ended : ℕ → Box → Box
-ended zero b = b
-ended (suc zero) b = b
-ended (suc (suc zero)) b = b
-ended (suc (suc (suc zero))) b = b
-ended (suc (suc (suc (suc zero)))) b = kept-last-box b
-ended (suc (suc (suc (suc (suc zero))))) b = moved-last-box b
-ended (suc (suc (suc (suc (suc (suc zero)))))) b = b
-ended (suc (suc (suc (suc (suc (suc (suc zero))))))) b = b
-ended (suc (suc (suc (suc (suc (suc (suc (suc zero)))))))) b = zeroed-last-box b
-ended (suc (suc (suc (suc (suc (suc (suc (suc (suc p))))))))) b = b
+ended p b = cond (eqb p 5) (moved-last-box b) (cond (eqb p 8) (zeroed-last-box b) (cond (eqb p 4) (kept-last-box b) b))
 
 -- ---- the answers of a step
 
@@ -221,22 +212,16 @@ record Leaves (b c : Box) (top-then : ℕ) : Type 0 where
   h-is : c .h ≡ b .h
   top-is : c .top ≡ top-then
 
-untouched : (b : Box) → Leaves b b (b .top)
-untouched b = record { hold-is = refl; free-is = refl; m-is = refl; h-is = refl; top-is = refl }
-
 ended-leaves : (p : ℕ) (b : Box) → Leaves b (ended p b) (end-top p b)
 unfolding ended
-ended-leaves zero b = untouched b
-ended-leaves (suc zero) b = untouched b
-ended-leaves (suc (suc zero)) b = untouched b
-ended-leaves (suc (suc (suc zero))) b = untouched b
-ended-leaves (suc (suc (suc (suc zero)))) b = record { hold-is = refl; free-is = refl; m-is = refl; h-is = refl; top-is = refl }
-ended-leaves (suc (suc (suc (suc (suc zero))))) b = record { hold-is = refl; free-is = refl; m-is = refl; h-is = refl; top-is = refl }
-ended-leaves (suc (suc (suc (suc (suc (suc zero)))))) b = untouched b
-ended-leaves (suc (suc (suc (suc (suc (suc (suc zero))))))) b = untouched b
-ended-leaves (suc (suc (suc (suc (suc (suc (suc (suc zero)))))))) b = record { hold-is = refl; free-is = refl; m-is = refl; h-is = refl; top-is = refl }
-ended-leaves (suc (suc (suc (suc (suc (suc (suc (suc (suc p))))))))) b =
-    record { hold-is = refl; free-is = refl; m-is = refl; h-is = refl; top-is = simp (ne-eqb (suc (suc (suc (suc (suc (suc (suc (suc (suc p))))))))) 5 (omega arith), ne-eqb (suc (suc (suc (suc (suc (suc (suc (suc (suc p))))))))) 8 (omega arith)) }
+ended-leaves p b = go (eqb p 5) (eqb p 8) (eqb p 4)
+  where
+    go : (x y z : Bool) → Leaves b (cond x (moved-last-box b) (cond y (zeroed-last-box b) (cond z (kept-last-box b) b)))
+        (cond x (b .collector .dest + b .collector .size + 1) (cond y (b .collector .dest) (b .top)))
+    go true y z = record { hold-is = refl; free-is = refl; m-is = refl; h-is = refl; top-is = refl }
+    go false true z = record { hold-is = refl; free-is = refl; m-is = refl; h-is = refl; top-is = refl }
+    go false false true = record { hold-is = refl; free-is = refl; m-is = refl; h-is = refl; top-is = refl }
+    go false false false = record { hold-is = refl; free-is = refl; m-is = refl; h-is = refl; top-is = refl }
 
 module _ (b : Box) where
   last-box : Box
@@ -389,16 +374,14 @@ ends-any (suc (suc (suc (suc (suc (suc (suc (suc (suc p))))))))) o b x = x
 
 ended-any : (p : ℕ) (o : Hold) (b : Box) → ended p (with-hold o b) ≡ with-hold o (ended p b)
 unfolding ended
-ended-any zero o b = refl
-ended-any (suc zero) o b = refl
-ended-any (suc (suc zero)) o b = refl
-ended-any (suc (suc (suc zero))) o b = refl
-ended-any (suc (suc (suc (suc zero)))) o b = refl
-ended-any (suc (suc (suc (suc (suc zero))))) o b = refl
-ended-any (suc (suc (suc (suc (suc (suc zero)))))) o b = refl
-ended-any (suc (suc (suc (suc (suc (suc (suc zero))))))) o b = refl
-ended-any (suc (suc (suc (suc (suc (suc (suc (suc zero)))))))) o b = refl
-ended-any (suc (suc (suc (suc (suc (suc (suc (suc (suc p))))))))) o b = refl
+ended-any p o b = go (eqb p 5) (eqb p 8) (eqb p 4)
+  where
+    go : (x y z : Bool) → cond x (moved-last-box (with-hold o b)) (cond y (zeroed-last-box (with-hold o b)) (cond z (kept-last-box (with-hold o b)) (with-hold o b)))
+        ≡ with-hold o (cond x (moved-last-box b) (cond y (zeroed-last-box b) (cond z (kept-last-box b) b)))
+    go true y z = refl
+    go false true z = refl
+    go false false true = refl
+    go false false false = refl
 
 -- a step that ends the cycle, whatever is held
 ends-then : (b : Box) → Right b → ¬ StepLost (b .collector .phase) b → StepEnds (b .collector .phase) b → step b ≡ end-cycle b (last-box b)

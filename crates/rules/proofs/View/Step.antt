@@ -3,7 +3,7 @@
 -- the rule rewritten by the answers; `view` is complete because every test has two answers and a sound box has a phase up to 8.
 -- Assumes nothing.
 use Prim.Native.Nat.{ℕ, zero, suc, _+_, _-_, _≤_, _<_}
-use mathlib.Core.Bool.{Bool, true, false, cond, _||_}
+use mathlib.Core.Bool.{Bool, true, false, cond, _||_, true≢false}
 use mathlib.Core.Logic.{_≢_, _⊎_, inl, inr}
 use mathlib.Core.Path.{_≡_, refl, sym, _∙_, ap, subst}
 use native.Mathlib.Omega.{arith}
@@ -16,7 +16,7 @@ use Rattle.rules.specs.Answers.{Entry, Passed}
 use Rattle.rules.specs.Place.{shade}
 use Rattle.rules.specs.Collector.{going, to-phase, after, end-cycle, note-begun, rest, scan, unmarked, damaged, nothing, look-register, look-from, begin-sweep, end-marking, mark-root, scan-next, mark-next, scan-word, scan-current, mark-scan, mark-add, go-on, keep-in-place, start-move, free-tuple, start-zero, release, sweep-tuple, sweep-scan, leave-tuple, settle-move, finish-move, copy-word, sweep-read, sweep-clear, write-copy, sweep-write, zero-word, sweep-zero, rule-of, step}
 use Rattle.rules.proofs.Sizes.{sound-phase}
-use Rattle.rules.proofs.View.Tests.{true-is-not-false, le?, lt?, eq?, true?, entry?, entry-true, entry-false, Shading, shading, shaded, unshaded, shade-lost, shade-total, can-shade-marked, can-shade-unmarked, can-shade-lost, can-shade-total, shade-marked}
+use Rattle.rules.proofs.View.Tests.{le?, lt?, eq?, true?, entry?, entry-true, entry-false, Shading, shading, shaded, unshaded, shade-lost, shade-total, can-shade-marked, can-shade-unmarked, can-shade-lost, can-shade-total, shade-marked}
 use Rattle.rules.proofs.View.Boxes.{rested-box, scanned-data-box, scanned-pointer-box, kept-last-box, kept-box, move-begun-box, released-box, zero-begun-box, copied-box, moved-last-box, moved-box, cleared-box, zeroed-last-box, swept-size, swept-after, moved-end}
 
 -- ---- the transitions
@@ -187,7 +187,7 @@ look (suc n) b = by-name (look n b) (true? (names-tuple (register (first-of n) b
 
     by-name : Look n b → (names-tuple (register (first-of n) b) ≡ true) ⊎ (names-tuple (register (first-of n) b) ≡ false) → Look (suc n) b
     by-name l (inl w) = by-entry l w (entry? (handle-of (register (first-of n) b)) b)
-    by-name l (inr w) = look-later n b (λ x. absurd (true-is-not-false (sym x ∙ w))) (simp w) l
+    by-name l (inr w) = look-later n b (λ x. absurd (true≢false (sym x ∙ w))) (simp w) l
 
 mark-next-view : (b : Box) → sound b ≡ true → b .collector .phase ≡ 1 → step b ≡ mark-next b → Step b
 unfolding mark-next scan-next mark-root end-marking

@@ -1,26 +1,17 @@
 -- What the views share: each test of the rules decided, with the fact about numbers that goes with the answer, and the tests
 -- that have a name of their own. Every decision is a case of a sum, so that a clause names the fact. Assumes nothing.
 use Prim.Native.Nat.{ℕ, _+_, _≤_, _<_}
-use mathlib.Core.Bool.{Bool, true, false, _&&_}
+use mathlib.Core.Bool.{Bool, true, false}
 use mathlib.Core.Logic.{_≢_, _⊎_, inl, inr}
-use mathlib.Core.Path.{_≡_, refl, subst}
+use mathlib.Core.Path.{_≡_, refl}
 use native.Mathlib.Omega.{arith}
 use borrow.Author.Tests.{leb-true, leb-false, ltb-true, ltb-false, eqb-true, eqb-false, lt-ltb, le-ltb, le-leb, lt-leb, eq-eqb, ne-eqb}
-use lib.Dec.{T, leb, ltb, eqb}
+use lib.Dec.{leb, ltb, eqb}
 use Rattle.rules.specs.Parts.{Box}
 use Rattle.rules.specs.Box.{is-entry, size-of, marked}
 use Rattle.rules.specs.Place.{can-shade, shade}
 use Rattle.rules.specs.Answers.{Entry, NoRoom}
 use Rattle.rules.specs.Request.{no-room, collecting, can-make}
-
--- ---- tests
-
-pub true-is-not-false : true ≢ false
-true-is-not-false e = subst T e tt
-
-pub and-false : (t : Bool) → (t && false) ≡ false
-and-false true = refl
-and-false false = refl
 
 -- ---- decisions
 
