@@ -15,7 +15,8 @@ use Rattle.rules.specs.Collector.{step}
 use Rattle.rules.specs.Run.{Ran, run}
 use Rattle.rules.specs.Open.{opened, opening}
 use Rattle.rules.proofs.Demand1.{demand1}
-use Rattle.capi.specs.Calls.{request-of, c-asked, c-request, c-run}
+use Rattle.record.specs.Requests.{request-of}
+use Rattle.capi.specs.Calls.{c-asked, c-request, c-run}
 use Rattle.capi.specs.Promises.{Lent, box-of}
 use Rattle.history.specs.Machine.{Call, ask, single-step, run-for}
 use Rattle.history.specs.Calls.{World, start, after-request, after-step, after-run, play-call, play, RequestInWidth, CallInWidth, CallsInWidth}

@@ -6,7 +6,7 @@ use borrow.Author.Tests.{ltb-true}
 use Rattle.rules.specs.declared.kinds.Request.{Request}
 use Rattle.rules.specs.declared.kinds.Request.the-variants.{Setd, Nil, Move, Advance, Getm, Load, Store, Size, Tag, Same}
 use Rattle.rules.proofs.Sizes.{and-left, and-right}
-use Rattle.capi.specs.Calls.{half, if-right, request-of}
+use Rattle.record.specs.Requests.{half, if-right, request-of}
 use Rattle.history.specs.Calls.{In16, RequestInWidth}
 use Rattle.history.specs.Demand3.{IfThere}
 use Rattle.callers.specs.CCalls.{U32}

@@ -9,7 +9,7 @@ use Rattle.rules.specs.declared.kinds.Request.{Request}
 use Rattle.rules.specs.Parts.{Box}
 use Rattle.rules.specs.Box.{Reply, reply}
 use Rattle.rules.specs.Run.{Ran, ran}
-use Rattle.capi.specs.Calls.{request-of}
+use Rattle.record.specs.Requests.{request-of}
 use Rattle.capi.specs.Promises.{Lent, box-of}
 use Rattle.history.specs.Calls.{World, start, after-request, after-step, after-run}
 use Rattle.callers.specs.CCalls.{CCall, gloamish-open, gloamish-request, gloamish-step, gloamish-run, InWidth, Promised}

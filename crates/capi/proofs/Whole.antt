@@ -8,10 +8,11 @@ use Rattle.rules.specs.Parts.{Box}
 use Rattle.rules.specs.Box.{reply}
 use Rattle.rules.specs.Request as rules-request
 use Rattle.rules.specs.Run.{ran, run}
-use Rattle.capi.specs.declared.asked.Asked.{Asked}
-use Rattle.capi.specs.declared.asked.Asked.the-variants.{Known, Unknown}
-use Rattle.capi.specs.Calls.{not-understood, request-of, c-asked, c-request, in-one, c-run}
-use Rattle.capi.specs.Asked.{asked-as}
+use Rattle.record.specs.declared.asked.Asked.{Asked}
+use Rattle.record.specs.declared.asked.Asked.the-variants.{Known, Unknown}
+use Rattle.capi.specs.Calls.{not-understood, c-asked, c-request, in-one, c-run}
+use Rattle.record.specs.Requests.{request-of}
+use Rattle.record.specs.Asked.{asked-as}
 
 -- what the code found asked is what the definition says
 found-none : (o : Option Request) → asked-as o ≡ Unknown → o ≡ none

@@ -1,9 +1,8 @@
 // The C interface of the memory unit, for C and Rust to link. Each call lends the state as three arrays (crate lent says what stands
 // where) and the seven columns. A C caller sees to it that flags are 0 or 1, that the arrays have their lengths, and that no two of
 // the lent parts overlap; whatever they hold is right.
-mod asked;
 
-use asked::Asked;
+use record::Asked;
 ghost use mathlib.Core.Path.{_≡_};
 ghost use Prim.Native.Nat.{_<_};
 ghost use Rattle.capi.specs.Promises.{parts, Opens, Asks, Steps, Runs};
@@ -66,7 +65,7 @@ pub extern "C" fn gloamish_request(
 ) -> u32
     ensures { λ r. ⌜ Asks kind a b c (parts (now (numbers .entry)) (now (switches .entry)) (now (hold .entry)) (now (words .entry)) (now (flags .entry)) (now (addresses .entry)) (now (sizes .entry)) (now (links .entry)) (now (marks .entry)) (now (deeps .entry))) (parts (now (numbers .exit)) (now (switches .exit)) (now (hold .exit)) (now (words .exit)) (now (flags .exit)) (now (addresses .exit)) (now (sizes .exit)) (now (links .exit)) (now (marks .exit)) (now (deeps .exit))) r ⌝ }
 {
-    let Asked::Known(q) = asked::request_of(kind, a, b, c) else {
+    let Asked::Known(q) = record::request_of(kind, a, b, c) else {
         return NOT_UNDERSTOOD;
     };
     memory::request(

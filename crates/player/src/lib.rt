@@ -1,0 +1,5 @@
+// Playing a record on the memory unit, in pieces.
+mod place;
+
+pub use place::Deed;
+pub use place::Place;

@@ -1,0 +1,5 @@
+// The record of a run: its numbers as bytes, its reader and its writer, and the request that a record's kind and fields ask for.
+mod asked;
+
+pub use asked::Asked;
+pub use asked::request_of;
