@@ -3,6 +3,7 @@ pub mod Requests
 pub mod Asked
 pub mod Fields
 pub mod Reading
+pub mod Found
 pub mod Writing
 pub mod Promises
 pub mod Examples
