@@ -1,18 +1,17 @@
 -- What a number's groups give at a place of the lent bytes, case by case as the code meets them. Assumes nothing.
 use Prim.Native.Nat.{ℕ, zero, suc, _+_, _-_, _*_, _^_, _≤_, _<_}
-use mathlib.Core.Bool.{Bool, true, false, cond}
 use mathlib.Core.List.{List, [], _∷_}
 use mathlib.Core.Path.{_≡_, refl, sym, ap, _∙_}
 use native.Mathlib.Omega.{arith}
 use native.Mathlib.Numerals.{add-one}
-use lib.Dec.{ltb, leb, eqb}
 use lib.ListN.{length, getD, drop, length-drop, drop-of-length-le}
 use lib.Seq.{drop-cons, getD-drop}
-use borrow.Author.Tests.{lt-ltb, le-ltb, le-leb, lt-leb, ne-eqb, leb-true, ltb-true, ltb-false}
+use borrow.Author.Tests.{lt-ltb, le-ltb, le-leb, lt-leb, ne-eqb}
 use Rattle.record.specs.declared.number.Number as code
 use Rattle.record.specs.declared.number.Number.the-variants.{Found, Refused}
 use Rattle.record.specs.Number.{Number, found, refused, before, more-groups, number, cut, long-form}
 use Rattle.record.specs.Found.{place-of, as-number}
+use Rattle.record.proofs.Laws.{groups-bound}
 
 -- the place behind a byte
 pub place-next : (bs : List ℕ) (at : ℕ) → at < length bs → place-of (length bs) (drop (suc at) bs) ≡ at + 1
@@ -91,51 +90,17 @@ module _ (bs : List ℕ) (at : ℕ) where
 
 -- ---- the groups that may still follow bound a number
 
-limit : ℕ → ℕ
-limit zero = 16
-limit (suc k) = 128 * limit k
-
-refused-is-found : {A : Type 0} (a n : ℕ) (rest : List ℕ) → refused a ≡ found n rest → A
-refused-is-found a n rest e = absurd (let w : _≡_ {A = ℕ} 0 1 = cc in omega arith)
-
-fifth-below : (t u : Bool) (b : ℕ) (bs : List ℕ) (n : ℕ) (rest : List ℕ) → leb b 15 ≡ u → cond t (refused long-form) (cond u (found b bs) (refused long-form)) ≡ found n rest → n < 16
-fifth-below true u b bs n rest h e = refused-is-found long-form n rest e
-fifth-below false false b bs n rest h e = refused-is-found long-form n rest e
-fifth-below false true b bs n rest h e = let v : b ≡ n = cc in omega (arith, leb-true b 15 h)
-
-before-below : (g : ℕ) (x : Number) (l n : ℕ) (rest : List ℕ) → g < 128 → ((v : ℕ) (after : List ℕ) → x ≡ found v after → v < l) → before g x ≡ found n rest → n < 128 * l
-unfolding before
-before-below g (found v after) l n rest h w e = let z : g + 128 * v ≡ n = cc in omega (arith, w v after refl)
-before-below g (refused a) l n rest h w e = refused-is-found a n rest e
-
-middle-below : (t u : Bool) (b : ℕ) (bs : List ℕ) (x : Number) (l n : ℕ) (rest : List ℕ) → 16 ≤ l → b < 256 → ltb b 128 ≡ u → ((v : ℕ) (after : List ℕ) → x ≡ found v after → v < l) → cond t (refused long-form) (cond u (found b bs) (before (b - 128) x)) ≡ found n rest → n < 128 * l
-middle-below true u b bs x l n rest hl hb h w e = refused-is-found long-form n rest e
-middle-below false true b bs x l n rest hl hb h w e = let v : b ≡ n = cc in omega (arith, ltb-true b 128 h)
-middle-below false false b bs x l n rest hl hb h w e = before-below (b - 128) x l n rest (omega arith) w e
-
-limit-least : (k : ℕ) → 16 ≤ limit k
-unfolding limit
-limit-least zero = omega arith
-limit-least (suc k) = omega (arith, limit-least k)
-
-found-below : (k : ℕ) (bs : List ℕ) → ((i : ℕ) → getD bs i 0 < 256) → (n : ℕ) (rest : List ℕ) → more-groups k bs ≡ found n rest → n < limit k
-unfolding more-groups limit
-found-below k [] w n rest e = refused-is-found cut n rest e
-found-below zero (b ∷ bs) w n rest e = fifth-below (eqb b 0) (leb b 15) b bs n rest refl e
-found-below (suc k) (b ∷ bs) w n rest e = middle-below (eqb b 0) (ltb b 128) b bs (more-groups k bs) (limit k) n rest (limit-least k) (w 0) refl (found-below k bs (λ i. w (suc i))) e
-
-limit-most : (k : ℕ) → k ≤ 3 → limit k ≤ 33554432
-unfolding limit
+limit-most : (k : ℕ) → k ≤ 3 → 16 * 128 ^ k ≤ 33554432
 limit-most zero h = omega arith
 limit-most (suc zero) h = omega arith
 limit-most (suc (suc zero)) h = omega arith
 limit-most (suc (suc (suc zero))) h = omega arith
 limit-most (suc (suc (suc (suc k)))) h = absurd (omega arith)
 
-fits-in : (k : ℕ) → k ≤ 3 → (len : ℕ) (x : Number) → ((v : ℕ) (rest : List ℕ) → x ≡ found v rest → v < limit k) → (r : code.Number) → r ≡ as-number len x → (n next : ℕ) → r ≡ Found n next → n < 33554432
+fits-in : (k : ℕ) → k ≤ 3 → (len : ℕ) (x : Number) → ((v : ℕ) (rest : List ℕ) → x ≡ found v rest → v < 16 * 128 ^ k) → (r : code.Number) → r ≡ as-number len x → (n next : ℕ) → r ≡ Found n next → n < 33554432
 fits-in k h len (found v rest) w r e n next u = let z : v ≡ n = cc in omega (arith, w v rest refl, limit-most k h)
 fits-in k h len (refused a) w r e n next u = let z : Refused a ≡ Found n next = sym e ∙ u in absurd (let w : _≡_ {A = ℕ} 0 1 = cc in omega arith)
 
 -- where at most three more may follow, a further group before the number leaves it within 32 bits
 pub found-fits : (bs : List ℕ) (at k : ℕ) → ((i : ℕ) → getD bs i 0 < 256) → k ≤ 3 → (r : code.Number) → r ≡ as-number (length bs) (more-groups k (drop at bs)) → (n next : ℕ) → r ≡ Found n next → n < 33554432
-found-fits bs at k w h r e n next u = fits-in k h (length bs) (more-groups k (drop at bs)) (λ v rest x. found-below k (drop at bs) (λ i. rw (getD-drop at bs i 0) (w (at + i))) v rest x) r e n next u
+found-fits bs at k w h r e n next u = fits-in k h (length bs) (more-groups k (drop at bs)) (groups-bound k (drop at bs) (λ i j. rw (getD-drop at bs i 0) (w (at + i)))) r e n next u

@@ -1,2 +1,4 @@
 pub mod Requests
+pub mod Laws
 pub mod Groups
+pub mod Entries

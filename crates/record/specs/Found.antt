@@ -1,10 +1,13 @@
 -- What the code's reader hands on: a place in the lent bytes stands for the bytes behind it.
 use Prim.Native.Nat.{ℕ, _-_}
 use mathlib.Core.List.{List}
-use lib.ListN.{length}
+use lib.ListN.{length, getD}
 use Rattle.record.specs.declared.number.Number as code
 use Rattle.record.specs.declared.number.Number.the-variants.{Found, Refused}
+use Rattle.record.specs.declared.entry.Entry.{Entry}
+use Rattle.record.specs.declared.entry.Entry.the-variants.{Whole, Faulty}
 use Rattle.record.specs.Number as rules
+use Rattle.record.specs.Fields.{Item, whole, fault}
 
 -- the place behind what was read, in bytes of which there are so many
 abbrev pub place-of : ℕ → List ℕ → ℕ
@@ -18,3 +21,8 @@ as-number n (rules.refused a) = Refused a
 abbrev pub refusal-of : code.Number → ℕ
 refusal-of (Found v at) = 0
 refusal-of (Refused a) = a
+
+-- a kind or an edition, its fields, and 0 for those that it does not have
+abbrev pub as-entry : ℕ → Item → Entry
+as-entry n (whole ns rest) = Whole (getD ns 0 0) (getD ns 1 0) (getD ns 2 0) (getD ns 3 0) (place-of n rest)
+as-entry n (fault a) = Faulty a

@@ -1,0 +1,143 @@
+// A record, and the head of a string: a number that says what follows, and its fields.
+use crate::number::Number;
+use crate::number::number_at;
+use crate::number::refusal;
+ghost use mathlib.Core.List.{[], _∷_};
+ghost use mathlib.Core.Path.{_≡_};
+ghost use lib.ListN.{length, drop};
+ghost use Rattle.record.specs.Fields.{most16, joined, field, fields, kinds, editions, entry};
+ghost use Rattle.record.specs.Found.{as-number, as-entry};
+
+// What was read whole: a kind or an edition, its fields, 0 for those that it does not have, and the place behind it; or what refuses it.
+pub enum Entry {
+    Whole {
+        kind: u32,
+        a: u32,
+        b: u32,
+        c: u32,
+        next: usize,
+    },
+    Faulty(u32),
+}
+
+// The limits of a field: 16 and 32 bits.
+const MOST_16: u32 = 65535;
+
+const MOST_32: u32 = 4294967295;
+
+// A number that is at most `limit`; 23 where it is above.
+fn field_at(bytes: &[u8], at: usize, limit: u32) -> Number
+    ensures { λ r. ⌜ r ≡ as-number (length (now (bytes .entry))) (field limit (drop at (now (bytes .entry)))) ⌝ }
+{
+    let n = number_at(bytes, at);
+    let Number::Found(v, next) = n else {
+        return n;
+    };
+    if v <= limit {
+        return Number::Found(v, next);
+    }
+    Number::Refused(23)
+}
+
+// `kind` with one field.
+fn one(bytes: &[u8], at: usize, kind: u32, limit: u32) -> Entry
+    ensures { λ r. ⌜ r ≡ as-entry (length (now (bytes .entry))) (joined kind (fields (limit ∷ []) (drop at (now (bytes .entry))))) ⌝ }
+{
+    let n = field_at(bytes, at, limit);
+    let Number::Found(a, next) = n else {
+        return Entry::Faulty(refusal(n));
+    };
+    Entry::Whole {
+        kind,
+        a,
+        b: 0,
+        c: 0,
+        next,
+    }
+}
+
+// `kind` with two fields, the first of 16 bits.
+fn two(bytes: &[u8], at: usize, kind: u32, limit: u32) -> Entry
+    ensures { λ r. ⌜ r ≡ as-entry (length (now (bytes .entry))) (joined kind (fields (most16 ∷ limit ∷ []) (drop at (now (bytes .entry))))) ⌝ }
+{
+    let n = field_at(bytes, at, MOST_16);
+    let Number::Found(a, second) = n else {
+        return Entry::Faulty(refusal(n));
+    };
+    let m = field_at(bytes, second, limit);
+    let Number::Found(b, next) = m else {
+        return Entry::Faulty(refusal(m));
+    };
+    Entry::Whole {
+        kind,
+        a,
+        b,
+        c: 0,
+        next,
+    }
+}
+
+// `kind` with three fields of 16 bits.
+fn three(bytes: &[u8], at: usize, kind: u32) -> Entry
+    ensures { λ r. ⌜ r ≡ as-entry (length (now (bytes .entry))) (joined kind (fields (most16 ∷ most16 ∷ most16 ∷ []) (drop at (now (bytes .entry))))) ⌝ }
+{
+    let n = field_at(bytes, at, MOST_16);
+    let Number::Found(a, second) = n else {
+        return Entry::Faulty(refusal(n));
+    };
+    let m = field_at(bytes, second, MOST_16);
+    let Number::Found(b, third) = m else {
+        return Entry::Faulty(refusal(m));
+    };
+    let l = field_at(bytes, third, MOST_16);
+    let Number::Found(c, next) = l else {
+        return Entry::Faulty(refusal(l));
+    };
+    Entry::Whole {
+        kind,
+        a,
+        b,
+        c,
+        next,
+    }
+}
+
+// The record that begins at `at`, or kind 0 and the count at the end: 20 and 21 as a number, 22 for an unknown kind, 23 for a field that
+// is too large for its kind.
+pub fn record_at(bytes: &[u8], at: usize) -> Entry
+    ensures { λ r. ⌜ r ≡ as-entry (length (now (bytes .entry))) (entry kinds (drop at (now (bytes .entry)))) ⌝ }
+{
+    let n = number_at(bytes, at);
+    let Number::Found(kind, next) = n else {
+        return Entry::Faulty(refusal(n));
+    };
+    match kind {
+        0 => one(bytes, next, kind, MOST_32),
+        1 => two(bytes, next, kind, MOST_32),
+        2 => one(bytes, next, kind, MOST_16),
+        3 => two(bytes, next, kind, MOST_16),
+        4 => two(bytes, next, kind, MOST_16),
+        5 => three(bytes, next, kind),
+        6 => three(bytes, next, kind),
+        7 => three(bytes, next, kind),
+        8 => two(bytes, next, kind, MOST_16),
+        9 => two(bytes, next, kind, MOST_16),
+        10 => three(bytes, next, kind),
+        11 => one(bytes, next, kind, MOST_32),
+        _ => Entry::Faulty(22),
+    }
+}
+
+// Edition, M and H at the start: 20 and 21 as a number, 22 for an unknown edition, 23 for M or H above 65,535.
+pub fn head_of(bytes: &[u8]) -> Entry
+    ensures { λ r. ⌜ r ≡ as-entry (length (now (bytes .entry))) (entry editions (now (bytes .entry))) ⌝ }
+{
+    let n = number_at(bytes, 0);
+    let Number::Found(edition, next) = n else {
+        return Entry::Faulty(refusal(n));
+    };
+    if edition == 1 {
+        return two(bytes, next, edition, MOST_16);
+    }
+    Entry::Faulty(22)
+}
