@@ -11,11 +11,11 @@ use native.Mathlib.Omega.{arith}
 use lib.Dec.{leb, ltb, eqb}
 use lib.ListN.{length, drop, getD}
 use lib.Seq.{drop-drop}
-use borrow.Author.Tests.{ltb-true, ltb-false, leb-true, leb-false, eqb-true, eqb-false, lt-ltb, le-ltb, le-leb, ne-eqb}
-use Rattle.record.specs.Number.{Number, found, refused, cut, long-form, unknown, too-large, before, more-groups, number}
+use borrow.Author.Tests.{ltb-true, ltb-false, leb-true, eqb-false}
+use Rattle.record.specs.Number.{Number, found, refused, cut, long-form, unknown, too-large, before, more-groups, number, number-bytes}
 use Rattle.record.specs.Fields.{Item, whole, fault, joined, within, field, fields, named, entry, kinds}
 use Rattle.record.specs.Reading.{Reading, reading, item-before, is-end, nothing-behind, ending, records-in, records}
-use Rattle.record.specs.Writing.{Taken, taken, turned-down, Writing, writing, written-before, write-end, take-entry, write-in, write-records}
+use Rattle.record.specs.Writing.{Taken, taken, turned-down, writing, written-before, write-end, bytes-before, take-fields, take-named, take-entry, write-in, write-records}
 
 -- ---- what is left is an end of the bytes
 
@@ -81,7 +81,7 @@ unfolding before
 before-found g n rest (found m r) e = (m, cc, cc)
 before-found g n rest (refused a) e = absurd (refused-not-found e)
 
-groups-view : (k : ℕ) (bs : List ℕ) (n : ℕ) (rest : List ℕ) → more-groups k bs ≡ found n rest → Groups k bs n rest
+pub groups-view : (k : ℕ) (bs : List ℕ) (n : ℕ) (rest : List ℕ) → more-groups k bs ≡ found n rest → Groups k bs n rest
 unfolding more-groups
 groups-view k [] n rest e = absurd (refused-not-found e)
 groups-view zero (b ∷ bs) n rest e = go (eqb b 0) (leb b 15) refl refl e
@@ -123,7 +123,7 @@ pub data Whole : List ℕ → ℕ → List ℕ → Type 0 where
   alone : {b : ℕ} {bs : List ℕ} → b < 128 → Whole (b ∷ bs) b bs
   first : {b n : ℕ} {bs rest : List ℕ} → 128 ≤ b → Groups 3 bs n rest → Whole (b ∷ bs) (b - 128 + 128 * n) rest
 
-number-view : (bs : List ℕ) (n : ℕ) (rest : List ℕ) → number bs ≡ found n rest → Whole bs n rest
+pub number-view : (bs : List ℕ) (n : ℕ) (rest : List ℕ) → number bs ≡ found n rest → Whole bs n rest
 unfolding number
 number-view [] n rest e = absurd (refused-not-found e)
 number-view (b ∷ bs) n rest e = go (ltb b 128) refl e
@@ -174,7 +174,7 @@ unfolding field
 field-bound l bs n rest e = within-found l (number bs) n rest e .1
 
 -- what is joined was whole
-joined-whole : (n : ℕ) (x : Item) (ns rest : List ℕ) → joined n x ≡ whole ns rest → (ms : List ℕ) × (x ≡ whole ms rest) × (n ∷ ms ≡ ns)
+pub joined-whole : (n : ℕ) (x : Item) (ns rest : List ℕ) → joined n x ≡ whole ns rest → (ms : List ℕ) × (x ≡ whole ms rest) × (n ∷ ms ≡ ns)
 unfolding joined
 joined-whole n (whole ms r) ns rest e = (ms, cc, cc)
 joined-whole n (fault a) ns rest e = absurd (fault-not-whole e)
@@ -232,7 +232,7 @@ unfolding records-in
 turn-whole turns count bs ns rest e = rw (e, records-in)
 
 -- without bytes nothing is read
-no-entry : (table : ℕ → Option (List ℕ)) → entry table [] ≡ fault cut
+pub no-entry : (table : ℕ → Option (List ℕ)) → entry table [] ≡ fault cut
 unfolding number
 no-entry table = entry-refused table [] cut refl
 
@@ -270,3 +270,226 @@ unfolding records
 records-item count bs ns rest e z =
     let s : length rest < length bs = entry-behind kinds bs ns rest e .shorter in
     records-turn count bs ∙ turn-whole (length bs) count bs ns rest e ∙ rw z (ap (item-before ns) (records-turns (length bs) (length rest) (suc count) rest (omega arith) (omega arith)))
+
+-- ---- more bytes behind: what was found stays found, and what was refused stays refused, where the string did not end too soon
+
+abbrev pub number-and : List ℕ → Number → Number
+number-and more (found n rest) = found n (rest ++ more)
+number-and more (refused a) = refused a
+
+abbrev pub item-and : List ℕ → Item → Item
+item-and more (whole ns rest) = whole ns (rest ++ more)
+item-and more (fault a) = fault a
+
+before-and : (g : ℕ) (more : List ℕ) (x : Number) → before g (number-and more x) ≡ number-and more (before g x)
+unfolding before
+before-and g more (found n rest) = refl
+before-and g more (refused a) = refl
+
+before-cut : (g : ℕ) (x : Number) → x ≡ refused cut → before g x ≡ refused cut
+unfolding before
+before-cut g x e = ap (before g) e
+
+groups-and : (k : ℕ) (bs more : List ℕ) → (more-groups k bs ≡ refused cut → ⊥) → more-groups k (bs ++ more) ≡ number-and more (more-groups k bs)
+unfolding more-groups
+groups-and k [] more f = absurd (f refl)
+groups-and zero (b ∷ bs) more f = go (eqb b 0) (leb b 15)
+  where
+    go : (z s : Bool)
+        → cond z (refused long-form) (cond s (found b (bs ++ more)) (refused long-form)) ≡ number-and more (cond z (refused long-form) (cond s (found b bs) (refused long-form)))
+    go true s = refl
+    go false true = refl
+    go false false = refl
+groups-and (suc k) (b ∷ bs) more f = go (eqb b 0) (ltb b 128) (groups-and k bs more) f
+  where
+    rest-of : List ℕ → Number
+    rest-of cs = before (b - 128) (more-groups k cs)
+
+    go : (z s : Bool) → ((more-groups k bs ≡ refused cut → ⊥) → more-groups k (bs ++ more) ≡ number-and more (more-groups k bs))
+        → (cond z (refused long-form) (cond s (found b bs) (rest-of bs)) ≡ refused cut → ⊥)
+        → cond z (refused long-form) (cond s (found b (bs ++ more)) (rest-of (bs ++ more))) ≡ number-and more (cond z (refused long-form) (cond s (found b bs) (rest-of bs)))
+    go true s ih f = refl
+    go false true ih f = refl
+    go false false ih f = ap (before (b - 128)) (ih (λ e. f (before-cut (b - 128) (more-groups k bs) e))) ∙ before-and (b - 128) more (more-groups k bs)
+
+pub number-all-more : (bs more : List ℕ) → (number bs ≡ refused cut → ⊥) → number (bs ++ more) ≡ number-and more (number bs)
+unfolding number
+number-all-more [] more f = absurd (f refl)
+number-all-more (b ∷ bs) more f = go (ltb b 128) f
+  where
+    rest-of : List ℕ → Number
+    rest-of cs = before (b - 128) (more-groups 3 cs)
+
+    go : (s : Bool) → (cond s (found b bs) (rest-of bs) ≡ refused cut → ⊥) → cond s (found b (bs ++ more)) (rest-of (bs ++ more)) ≡ number-and more (cond s (found b bs) (rest-of bs))
+    go true f = refl
+    go false f = ap (before (b - 128)) (groups-and 3 bs more (λ e. f (before-cut (b - 128) (more-groups 3 bs) e))) ∙ before-and (b - 128) more (more-groups 3 bs)
+
+-- another answer than the end of the string is no end of the string
+other-refused : (x : Number) (a : ℕ) → x ≡ refused a → (a ≡ cut → ⊥) → x ≡ refused cut → ⊥
+other-refused x a e f g = f (cc)
+
+found-not-cut : (x : Number) (n : ℕ) (rest : List ℕ) → x ≡ found n rest → x ≡ refused cut → ⊥
+found-not-cut x n rest e g = refused-not-found (sym g ∙ e)
+
+pub number-more : (bs more : List ℕ) (n : ℕ) (rest : List ℕ) → number bs ≡ found n rest → number (bs ++ more) ≡ found n (rest ++ more)
+number-more bs more n rest e = number-all-more bs more (found-not-cut (number bs) n rest e) ∙ ap (number-and more) e
+
+pub number-refused-more : (bs more : List ℕ) (a : ℕ) → number bs ≡ refused a → (a ≡ cut → ⊥) → number (bs ++ more) ≡ refused a
+number-refused-more bs more a e f = number-all-more bs more (other-refused (number bs) a e f) ∙ ap (number-and more) e
+
+-- the same of fields
+
+within-and : (l : ℕ) (more : List ℕ) (x : Number) → within l (number-and more x) ≡ number-and more (within l x)
+unfolding within
+within-and l more (found n rest) = go (leb n l)
+  where
+    go : (s : Bool) → cond s (found n (rest ++ more)) (refused too-large) ≡ number-and more (cond s (found n rest) (refused too-large))
+    go true = refl
+    go false = refl
+within-and l more (refused a) = refl
+
+field-all-more : (l : ℕ) (bs more : List ℕ) → (field l bs ≡ refused cut → ⊥) → field l (bs ++ more) ≡ number-and more (field l bs)
+unfolding field within
+field-all-more l bs more f = ap (within l) (number-all-more bs more (λ e. f (ap (within l) e))) ∙ within-and l more (number bs)
+
+joined-and : (n : ℕ) (more : List ℕ) (x : Item) → joined n (item-and more x) ≡ item-and more (joined n x)
+unfolding joined
+joined-and n more (whole ns rest) = refl
+joined-and n more (fault a) = refl
+
+fields-all-more : (ls bs more : List ℕ) → (fields ls bs ≡ fault cut → ⊥) → fields ls (bs ++ more) ≡ item-and more (fields ls bs)
+unfolding fields joined
+fields-all-more [] bs more f = refl
+fields-all-more (l ∷ ls) bs more f = go (field l bs) refl (λ r. fields-all-more ls r more)
+  where
+    go : (x : Number) → field l bs ≡ x → ((r : List ℕ) → (fields ls r ≡ fault cut → ⊥) → fields ls (r ++ more) ≡ item-and more (fields ls r))
+        → fields (l ∷ ls) (bs ++ more) ≡ item-and more (fields (l ∷ ls) bs)
+    go (found n r) e ih =
+        fields-found l ls (bs ++ more) n (r ++ more) (field-all-more l bs more (found-not-cut (field l bs) n r e) ∙ ap (number-and more) e)
+        ∙ ap (joined n) (ih r (λ g. f (fields-found l ls bs n r e ∙ ap (joined n) g)))
+        ∙ joined-and n more (fields ls r)
+        ∙ ap (item-and more) (sym (fields-found l ls bs n r e))
+    go (refused a) e ih =
+        fields-refused l ls (bs ++ more) a (field-all-more l bs more (λ g. f (fields-refused l ls bs cut g)) ∙ ap (number-and more) e)
+        ∙ ap (item-and more) (sym (fields-refused l ls bs a e))
+
+named-all-more : (t : Option (List ℕ)) (k : ℕ) (bs more : List ℕ) → (named t k bs ≡ fault cut → ⊥) → named t k (bs ++ more) ≡ item-and more (named t k bs)
+unfolding named joined
+named-all-more none k bs more f = refl
+named-all-more (some ls) k bs more f = ap (joined k) (fields-all-more ls bs more (λ e. f (ap (joined k) e))) ∙ joined-and k more (fields ls bs)
+
+pub entry-all-more : (table : ℕ → Option (List ℕ)) (bs more : List ℕ) → (entry table bs ≡ fault cut → ⊥) → entry table (bs ++ more) ≡ item-and more (entry table bs)
+entry-all-more table bs more f = go (number bs) refl
+  where
+    go : (x : Number) → number bs ≡ x → entry table (bs ++ more) ≡ item-and more (entry table bs)
+    go (found k r) e =
+        entry-found table (bs ++ more) k (r ++ more) (number-more bs more k r e)
+        ∙ named-all-more (table k) k r more (λ g. f (entry-found table bs k r e ∙ g))
+        ∙ ap (item-and more) (sym (entry-found table bs k r e))
+    go (refused a) e =
+        entry-refused table (bs ++ more) a (number-all-more bs more (λ g. f (entry-refused table bs cut g)) ∙ ap (number-and more) e)
+        ∙ ap (item-and more) (sym (entry-refused table bs a e))
+
+pub entry-more : (table : ℕ → Option (List ℕ)) (bs more ns rest : List ℕ) → entry table bs ≡ whole ns rest → entry table (bs ++ more) ≡ whole ns (rest ++ more)
+entry-more table bs more ns rest e = entry-all-more table bs more (λ g. fault-not-whole (sym g ∙ e)) ∙ ap (item-and more) e
+
+other-fault : (x : Item) (a : ℕ) → x ≡ fault a → (a ≡ cut → ⊥) → x ≡ fault cut → ⊥
+other-fault x a e f g = f (cc)
+
+pub entry-fault-more : (table : ℕ → Option (List ℕ)) (bs more : List ℕ) (a : ℕ) → entry table bs ≡ fault a → (a ≡ cut → ⊥) → entry table (bs ++ more) ≡ fault a
+entry-fault-more table bs more a e f = entry-all-more table bs more (other-fault (entry table bs) a e f) ∙ ap (item-and more) e
+
+-- ---- a turn of the writer
+
+-- what is taken leaves fewer numbers
+
+pub turned-down-not-taken : {a : ℕ} {bs ns : List ℕ} → turned-down a ≡ taken bs ns → ⊥
+turned-down-not-taken e = let z : _≡_ {A = ℕ} 0 1 = cc in omega arith
+
+pub bytes-before-taken : (bs : List ℕ) (x : Taken) (cs rest : List ℕ) → bytes-before bs x ≡ taken cs rest → (ds : List ℕ) × (x ≡ taken ds rest) × (bs ++ ds ≡ cs)
+unfolding bytes-before
+bytes-before-taken bs (taken ds r) cs rest e = (ds, cc, cc)
+bytes-before-taken bs (turned-down a) cs rest e = absurd (turned-down-not-taken e)
+
+take-fields-left : (ls ns bs rest : List ℕ) → take-fields ls ns ≡ taken bs rest → length rest ≤ length ns
+unfolding take-fields
+take-fields-left [] ns bs rest e = let f : ns ≡ rest = cc in omega (arith, ap length f)
+take-fields-left (l ∷ ls) [] bs rest e = absurd (turned-down-not-taken e)
+take-fields-left (l ∷ ls) (n ∷ ns) bs rest e = go (leb n l) (λ ds. take-fields-left ls ns ds rest) e
+  where
+    go : (s : Bool) → ((ds : List ℕ) → take-fields ls ns ≡ taken ds rest → length rest ≤ length ns)
+        → cond s (bytes-before (number-bytes n) (take-fields ls ns)) (turned-down too-large) ≡ taken bs rest → length rest ≤ suc (length ns)
+    go true ih e =
+        let (ds, x, w) = bytes-before-taken (number-bytes n) (take-fields ls ns) bs rest e in
+        omega (arith, ih ds x)
+    go false ih e = absurd (turned-down-not-taken e)
+
+take-named-left : (t : Option (List ℕ)) (k : ℕ) (ns bs rest : List ℕ) → take-named t k ns ≡ taken bs rest → length rest ≤ length ns
+unfolding take-named
+take-named-left none k ns bs rest e = absurd (turned-down-not-taken e)
+take-named-left (some ls) k ns bs rest e =
+    let (ds, x, w) = bytes-before-taken (number-bytes k) (take-fields ls ns) bs rest e in
+    take-fields-left ls ns ds rest x
+
+pub take-entry-left : (table : ℕ → Option (List ℕ)) (ns bs rest : List ℕ) → take-entry table ns ≡ taken bs rest → length rest < length ns
+unfolding take-entry
+take-entry-left table [] bs rest e = absurd (turned-down-not-taken e)
+take-entry-left table (k ∷ ns) bs rest e = omega (arith, take-named-left (table k) k ns bs rest e)
+
+-- what a turn makes of an entry
+writer-fault : (turns count : ℕ) (ns : List ℕ) (a : ℕ) → nothing-behind ns ≡ false → is-end ns ≡ false → take-entry kinds ns ≡ turned-down a → write-in (suc turns) count ns ≡ writing [] a
+unfolding write-in
+writer-fault turns count ns a b z e = rw (b, z, e, write-in)
+
+writer-item : (turns count : ℕ) (ns bs rest : List ℕ) → nothing-behind ns ≡ false → is-end ns ≡ false → take-entry kinds ns ≡ taken bs rest
+    → write-in (suc turns) count ns ≡ written-before bs (write-in turns (suc count) rest)
+unfolding write-in
+writer-item turns count ns bs rest b z e = rw (b, z, e, write-in)
+
+writer-end : (turns count : ℕ) (ns : List ℕ) → nothing-behind ns ≡ true → write-in (suc turns) count ns ≡ write-end count
+unfolding write-in
+writer-end turns count ns b = rw (b, write-in)
+
+writer-zero : (turns count : ℕ) (ns : List ℕ) → nothing-behind ns ≡ false → is-end ns ≡ true → write-in (suc turns) count ns ≡ writing [] unknown
+unfolding write-in
+writer-zero turns count ns b z = rw (b, z, write-in)
+
+-- as many turns as numbers are enough
+write-turns : (t u count : ℕ) (ns : List ℕ) → length ns ≤ t → length ns ≤ u → write-in t count ns ≡ write-in u count ns
+unfolding write-in nothing-behind
+write-turns zero zero count ns p q = refl
+write-turns zero (suc u) count [] p q = refl
+write-turns zero (suc u) count (n ∷ ns) p q = absurd (omega arith)
+write-turns (suc t) zero count [] p q = refl
+write-turns (suc t) zero count (n ∷ ns) p q = absurd (omega arith)
+write-turns (suc t) (suc u) count ns p q = go (nothing-behind ns) (is-end ns) (take-entry kinds ns) refl refl refl (λ r. write-turns t u (suc count) r)
+  where
+    go : (b z : Bool) (x : Taken) → nothing-behind ns ≡ b → is-end ns ≡ z → take-entry kinds ns ≡ x
+        → ((r : List ℕ) → length r ≤ t → length r ≤ u → write-in t (suc count) r ≡ write-in u (suc count) r) → write-in (suc t) count ns ≡ write-in (suc u) count ns
+    go true z x b e f ih = writer-end t count ns b ∙ sym (writer-end u count ns b)
+    go false true x b e f ih = writer-zero t count ns b e ∙ sym (writer-zero u count ns b e)
+    go false false (taken bs rest) b e f ih =
+        let s : length rest < length ns = take-entry-left kinds ns bs rest f in
+        writer-item t count ns bs rest b e f ∙ ap (written-before bs) (ih rest (omega arith) (omega arith)) ∙ sym (writer-item u count ns bs rest b e f)
+    go false false (turned-down a) b e f ih = writer-fault t count ns a b e f ∙ sym (writer-fault u count ns a b e f)
+
+write-turn : (count : ℕ) (ns : List ℕ) → write-records count ns ≡ write-in (suc (length ns)) count ns
+unfolding write-records
+write-turn count ns = write-turns (length ns) (suc (length ns)) count ns (omega arith) (omega arith)
+
+pub write-records-end : (count : ℕ) → write-records count [] ≡ write-end count
+unfolding nothing-behind
+write-records-end count = write-turn count [] ∙ writer-end 0 count [] refl
+
+pub write-records-zero : (count : ℕ) (ns : List ℕ) → nothing-behind ns ≡ false → is-end ns ≡ true → write-records count ns ≡ writing [] unknown
+write-records-zero count ns b z = write-turn count ns ∙ writer-zero (length ns) count ns b z
+
+pub write-records-fault : (count : ℕ) (ns : List ℕ) (a : ℕ) → nothing-behind ns ≡ false → is-end ns ≡ false → take-entry kinds ns ≡ turned-down a → write-records count ns ≡ writing [] a
+write-records-fault count ns a b z e = write-turn count ns ∙ writer-fault (length ns) count ns a b z e
+
+pub write-records-item : (count : ℕ) (ns bs rest : List ℕ) → nothing-behind ns ≡ false → is-end ns ≡ false → take-entry kinds ns ≡ taken bs rest
+    → write-records count ns ≡ written-before bs (write-records (suc count) rest)
+unfolding write-records
+write-records-item count ns bs rest b z e =
+    let s : length rest < length ns = take-entry-left kinds ns bs rest e in
+    write-turn count ns ∙ writer-item (length ns) count ns bs rest b z e ∙ ap (written-before bs) (write-turns (length ns) (length rest) (suc count) rest (omega arith) (omega arith))
