@@ -1,2 +1,4 @@
 pub mod Entries
 pub mod Turns
+pub mod Lines
+pub mod Choices

@@ -1,4 +1,5 @@
 pub mod Lines
 pub mod Text
 pub mod Pieces
+pub mod Moves
 pub mod Calls

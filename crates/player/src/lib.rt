@@ -1,5 +1,7 @@
 // Playing a record on the memory unit, in pieces.
+mod moves;
 mod place;
+mod text;
 
 pub use place::Deed;
 pub use place::Place;

@@ -1,0 +1,16 @@
+-- `counted` meets its contract, by what `one_more` ensures. Assumes nothing.
+use borrow.Author.Needs.{needs}
+use Rattle.player.proofs.moves.counted.Statement.{statement}
+use Rattle.player.proofs.moves.counted.Tie as tie
+use Rattle.player.proofs.moves.counted.Reads as reads
+use Rattle.player.proofs.moves.counted.Lts as lts
+use Rattle.player.proofs.moves.one_more.Reads as one-more-reads
+
+one-more-requires : tie.Need-one-more-requires
+one-more-requires c κs = search needs
+
+returns : tie.Need-returns
+returns c = rw (c .one-more .ensures)
+
+pub counted-spec : {M : Type 1} → statement M
+counted-spec = tie.close (tie.spec one-more-requires returns)
