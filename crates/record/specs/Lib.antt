@@ -6,3 +6,4 @@ pub mod Reading
 pub mod Writing
 pub mod Promises
 pub mod Examples
+pub mod Claims
