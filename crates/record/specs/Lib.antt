@@ -7,3 +7,4 @@ pub mod Found
 pub mod Writing
 pub mod Promises
 pub mod Examples
+pub mod Claims
