@@ -2,3 +2,4 @@ pub mod Lines
 pub mod Text
 pub mod Pieces
 pub mod Calls
+pub mod Claims
