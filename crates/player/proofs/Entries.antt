@@ -1,89 +1,143 @@
--- What an entry leaves is shorter than what it is read from, and no refusal is 0. By the groups of a number, then field by field. Assumes
--- nothing.
-use Prim.Native.Nat.{ℕ, zero, suc, _<_}
+-- What playing needs of the reader beside its laws. No refusal is 0: by the groups of a number, then field by field. And a count of
+-- records above all numbers of 32 bits may stand still: the count at the end is such a number, so it is none above. Assumes nothing.
+use Prim.Native.Nat.{ℕ, zero, suc, _<_, _≤_}
 use mathlib.Core.Bool.{Bool, true, false, cond}
 use mathlib.Core.List.{List, [], _∷_}
 use mathlib.Core.Logic.{_≢_}
 use mathlib.Core.Option.{Option, none, some}
-use mathlib.Core.Path.{_≡_, refl, subst}
+use mathlib.Core.Path.{_≡_, refl, sym, _∙_, ap, subst}
+use native.Mathlib.Numerals.{add-one}
 use native.Mathlib.Omega.{arith}
+use borrow.Author.Tests.{ltb-false, eqb-true, ne-eqb}
 use lib.Dec.{leb, ltb, eqb}
-use lib.ListN.{length}
+use lib.ListN.{length, getD}
 use Rattle.record.specs.Number.{Number, found, refused, before, more-groups, number}
-use Rattle.record.specs.Fields.{Item, whole, fault, joined, within, field, fields, named, entry}
+use Rattle.record.specs.Fields.{most32, Item, whole, fault, row, kinds, joined, within, field, fields, named, entry}
+use Rattle.record.specs.Reading.{reading, item-before, is-end, ending, records}
+use Rattle.record.proofs.Laws.{fault-not-whole, field-bound, fields-found, fields-refused, entry-found, entry-refused, entry-behind, records-fault, records-end, records-item}
+use Rattle.player.specs.Pieces.{one-more}
 
--- ---- a number
+-- ---- no refusal is 0
 
--- what is left is shorter than n, or the refusal is not 0
-abbrev Within : ℕ → Number → Type 0
-Within n (found k rest) = length rest < n
-Within n (refused a) = a ≢ 0
+abbrev NotZero : Number → Type 0
+NotZero (found n rest) = Unit {0}
+NotZero (refused a) = a ≢ 0
 
-either : (n : ℕ) (t : Bool) (x y : Number) → Within n x → Within n y → Within n (cond t x y)
-either n true x y h k = h
-either n false x y h k = k
+either : (t : Bool) (x y : Number) → NotZero x → NotZero y → NotZero (cond t x y)
+either true x y h k = h
+either false x y h k = k
 
-longer : (n : ℕ) (x : Number) → Within n x → Within (suc n) x
-longer n (found k rest) h = omega arith
-longer n (refused a) h = h
-
-before-within : (n g : ℕ) (x : Number) → Within n x → Within n (before g x)
+before-not-0 : (g : ℕ) (x : Number) → NotZero x → NotZero (before g x)
 unfolding before
-before-within n g (found k rest) h = h
-before-within n g (refused a) h = h
+before-not-0 g (found n rest) h = tt
+before-not-0 g (refused a) h = h
 
-more-within : (k : ℕ) (bs : List ℕ) → Within (length bs) (more-groups k bs)
+more-not-0 : (k : ℕ) (bs : List ℕ) → NotZero (more-groups k bs)
 unfolding more-groups
-more-within zero [] = omega arith
-more-within (suc k) [] = omega arith
-more-within zero (b ∷ bs) = either _ (eqb b 0) _ _ (omega arith) (either _ (leb b 15) _ _ (omega arith) (omega arith))
-more-within (suc k) (b ∷ bs) = either _ (eqb b 0) _ _ (omega arith) (either _ (ltb b 128) _ _ (omega arith) (before-within _ _ (more-groups k bs) (longer _ (more-groups k bs) (more-within k bs))))
+more-not-0 zero [] = omega arith
+more-not-0 (suc k) [] = omega arith
+more-not-0 zero (b ∷ bs) = either (eqb b 0) _ _ (omega arith) (either (leb b 15) _ _ tt (omega arith))
+more-not-0 (suc k) (b ∷ bs) = either (eqb b 0) _ _ (omega arith) (either (ltb b 128) _ _ tt (before-not-0 _ (more-groups k bs) (more-not-0 k bs)))
 
-number-within : (bs : List ℕ) → Within (length bs) (number bs)
+number-not-0 : (bs : List ℕ) → NotZero (number bs)
 unfolding number
-number-within [] = omega arith
-number-within (b ∷ bs) = either _ (ltb b 128) _ _ (omega arith) (before-within _ _ (more-groups 3 bs) (longer _ (more-groups 3 bs) (more-within 3 bs)))
+number-not-0 [] = omega arith
+number-not-0 (b ∷ bs) = either (ltb b 128) _ _ tt (before-not-0 _ (more-groups 3 bs) (more-not-0 3 bs))
 
--- ---- an entry
-
-abbrev ItemWithin : ℕ → Item → Type 0
-ItemWithin n (whole ns rest) = length rest < n
-ItemWithin n (fault a) = a ≢ 0
-
-joined-within : (n k : ℕ) (x : Item) → ItemWithin n x → ItemWithin n (joined k x)
-unfolding joined
-joined-within n k (whole ns rest) h = h
-joined-within n k (fault a) h = h
-
-field-within : (n l : ℕ) (x : Number) → Within n x → Within n (within l x)
+within-not-0 : (l : ℕ) (x : Number) → NotZero x → NotZero (within l x)
 unfolding within
-field-within n l (found k rest) h = either n (leb k l) _ _ h (omega arith)
-field-within n l (refused a) h = h
+within-not-0 l (found n rest) h = either (leb n l) _ _ tt (omega arith)
+within-not-0 l (refused a) h = h
 
-fields-within : (ls bs : List ℕ) (n : ℕ) → length bs < n → ItemWithin n (fields ls bs)
-unfolding fields field
-fields-within [] bs n h = h
-fields-within (l ∷ ls) bs n h = go (field l bs) refl (λ rest k. fields-within ls rest n k)
+field-not-0 : (l : ℕ) (bs : List ℕ) → NotZero (field l bs)
+unfolding field
+field-not-0 l bs = within-not-0 l (number bs) (number-not-0 bs)
+
+abbrev NoZero : Item → Type 0
+NoZero (whole ns rest) = Unit {0}
+NoZero (fault a) = a ≢ 0
+
+joined-not-0 : (n : ℕ) (x : Item) → NoZero x → NoZero (joined n x)
+unfolding joined
+joined-not-0 n (whole ns rest) h = tt
+joined-not-0 n (fault a) h = h
+
+fields-not-0 : (ls bs : List ℕ) → NoZero (fields ls bs)
+unfolding fields
+fields-not-0 [] bs = tt
+fields-not-0 (l ∷ ls) bs = go (field l bs) refl (fields-not-0 ls)
   where
-    go : (x : Number) → field l bs ≡ x → ((rest : List ℕ) → length rest < n → ItemWithin n (fields ls rest)) → ItemWithin n (fields (l ∷ ls) bs)
-    go (found k rest) e f = let less : length rest < length bs = subst (Within (length bs)) e (field-within _ l (number bs) (number-within bs)) in rw (e, fields, ItemWithin) (joined-within n k (fields ls rest) (f rest (omega arith)))
-    go (refused a) e f = rw (e, fields, ItemWithin) (subst (Within (length bs)) e (field-within _ l (number bs) (number-within bs)))
+    go : (x : Number) → field l bs ≡ x → ((rest : List ℕ) → NoZero (fields ls rest)) → NoZero (fields (l ∷ ls) bs)
+    go (found n rest) e f = subst NoZero (sym (fields-found l ls bs n rest e)) (joined-not-0 n (fields ls rest) (f rest))
+    go (refused a) e f = subst NoZero (sym (fields-refused l ls bs a e)) (subst NotZero e (field-not-0 l bs))
 
-named-within : (n : ℕ) (o : Option (List ℕ)) (k : ℕ) (rest : List ℕ) → length rest < n → ItemWithin n (named o k rest)
+named-not-0 : (o : Option (List ℕ)) (k : ℕ) (rest : List ℕ) → NoZero (named o k rest)
 unfolding named
-named-within n none k rest h = omega arith
-named-within n (some ls) k rest h = joined-within n k (fields ls rest) (fields-within ls rest n h)
+named-not-0 none k rest = omega arith
+named-not-0 (some ls) k rest = joined-not-0 k (fields ls rest) (fields-not-0 ls rest)
 
-entry-within : (table : ℕ → Option (List ℕ)) (bs : List ℕ) → ItemWithin (length bs) (entry table bs)
-unfolding entry
-entry-within table bs = go (number bs) refl
+entry-not-0 : (table : ℕ → Option (List ℕ)) (bs : List ℕ) → NoZero (entry table bs)
+entry-not-0 table bs = go (number bs) refl
   where
-    go : (x : Number) → number bs ≡ x → ItemWithin (length bs) (entry table bs)
-    go (found k rest) e = rw (e, entry, ItemWithin) (named-within _ (table k) k rest (subst (Within (length bs)) e (number-within bs)))
-    go (refused a) e = rw (e, entry, ItemWithin) (subst (Within (length bs)) e (number-within bs))
-
-pub entry-shorter : (table : ℕ → Option (List ℕ)) (bs ns rest : List ℕ) → entry table bs ≡ whole ns rest → length rest < length bs
-entry-shorter table bs ns rest e = subst (ItemWithin (length bs)) e (entry-within table bs)
+    go : (x : Number) → number bs ≡ x → NoZero (entry table bs)
+    go (found k rest) e = subst NoZero (sym (entry-found table bs k rest e)) (named-not-0 (table k) k rest)
+    go (refused a) e = subst NoZero (sym (entry-refused table bs a e)) (subst NotZero e (number-not-0 bs))
 
 pub fault-not-0 : (table : ℕ → Option (List ℕ)) (bs : List ℕ) (a : ℕ) → entry table bs ≡ fault a → a ≢ 0
-fault-not-0 table bs a e = subst (ItemWithin (length bs)) e (entry-within table bs)
+fault-not-0 table bs a e = subst NoZero e (entry-not-0 table bs)
+
+-- ---- the count at the end
+
+-- kind 0 alone is the end
+not-the-end : (o : Option (List ℕ)) (k : ℕ) (bs ns rest : List ℕ) → named o (suc k) bs ≡ whole ns rest → is-end ns ≡ true → ⊥
+unfolding named joined
+not-the-end none k bs ns rest e z = absurd (fault-not-whole e)
+not-the-end (some ls) k bs ns rest e z = go (fields ls bs) e
+  where
+    go : (x : Item) → joined (suc k) x ≡ whole ns rest → ⊥
+    go (whole ms r) w = let f : suc k ∷ ms ≡ ns = cc in omega (arith, ap (λ (l : List ℕ). getD l 0 0) f, eqb-true (getD ns 0 0) 0 z)
+    go (fault a) w = absurd (fault-not-whole w)
+
+kind-bound : (k : ℕ) (bs ns rest : List ℕ) → named (kinds k) k bs ≡ whole ns rest → is-end ns ≡ true → getD ns 1 0 ≤ most32
+unfolding row kinds named joined fields
+kind-bound zero bs ns rest e z = go (field most32 bs) refl
+  where
+    go : (x : Number) → field most32 bs ≡ x → getD ns 1 0 ≤ most32
+    go (found n r) p =
+        let f : whole (0 ∷ n ∷ []) r ≡ whole ns rest = sym (ap (joined 0) (fields-found most32 [] bs n r p)) ∙ e in
+        let g : 0 ∷ n ∷ [] ≡ ns = cc in
+        omega (arith, ap (λ (l : List ℕ). getD l 1 0) g, field-bound most32 bs n r p)
+    go (refused a) p = absurd (fault-not-whole (sym (ap (joined 0) (fields-refused most32 [] bs a p)) ∙ e))
+kind-bound (suc k) bs ns rest e z = absurd (not-the-end (kinds (suc k)) k bs ns rest e z)
+
+count-bound : (bs ns rest : List ℕ) → entry kinds bs ≡ whole ns rest → is-end ns ≡ true → getD ns 1 0 ≤ most32
+count-bound bs ns rest e z = go (number bs) refl
+  where
+    go : (x : Number) → number bs ≡ x → getD ns 1 0 ≤ most32
+    go (found k r) p = kind-bound k r ns rest (sym (entry-found kinds bs k r p) ∙ e) z
+    go (refused a) p = absurd (fault-not-whole (sym (entry-refused kinds bs a p) ∙ e))
+
+ending-high : (n : ℕ) (ns rest : List ℕ) → getD ns 1 0 ≤ most32 → most32 < n → ending (suc n) ns rest ≡ ending n ns rest
+unfolding ending
+ending-high n ns rest b h = rw (ne-eqb (getD ns 1 0) n (λ e. omega arith), ne-eqb (getD ns 1 0) (suc n) (λ e. omega arith))
+
+records-high : (t n : ℕ) (bs : List ℕ) → length bs < t → most32 < n → records (suc n) bs ≡ records n bs
+records-high zero n bs l h = absurd (omega arith)
+records-high (suc t) n bs l h = go (entry kinds bs) refl (λ rest. records-high t (suc n) rest)
+  where
+    item : (ns rest : List ℕ) → entry kinds bs ≡ whole ns rest → (z : Bool) → is-end ns ≡ z → records (suc (suc n)) rest ≡ records (suc n) rest → records (suc n) bs ≡ records n bs
+    item ns rest e true z same = records-end (suc n) bs ns rest e z ∙ ap (reading []) (ending-high n ns rest (count-bound bs ns rest e z) h) ∙ sym (records-end n bs ns rest e z)
+    item ns rest e false z same = records-item (suc n) bs ns rest e z ∙ ap (item-before ns) same ∙ sym (records-item n bs ns rest e z)
+
+    go : (x : Item) → entry kinds bs ≡ x → ((rest : List ℕ) → length rest < t → most32 < suc n → records (suc (suc n)) rest ≡ records (suc n) rest) → records (suc n) bs ≡ records n bs
+    go (whole ns rest) e same = let s : length rest < length bs = entry-behind kinds bs ns rest e .shorter in item ns rest e (is-end ns) refl (same rest (omega arith) (omega arith))
+    go (fault a) e same = records-fault (suc n) bs a e ∙ sym (records-fault n bs a e)
+
+-- one record more, counted so far as it matters
+pub records-one-more : (n : ℕ) (bs : List ℕ) → records (suc n) bs ≡ records (one-more n) bs
+unfolding one-more
+records-one-more n bs = go (ltb n 4294967296) refl
+  where
+    go : (t : Bool) → ltb n 4294967296 ≡ t → records (suc n) bs ≡ records (one-more n) bs
+    go true e = rw (e, add-one)
+    go false e = let h : 4294967296 ≤ n = ltb-false n 4294967296 e in rw e (records-high (suc (length bs)) n bs (omega arith) (omega arith))

@@ -1,4 +1,7 @@
-pub mod Entries
-pub mod Turns
 pub mod Lines
 pub mod Choices
+pub mod Entries
+pub mod Turns
+pub mod Still
+pub mod Opening
+pub mod Theorem

@@ -1,8 +1,8 @@
--- The laws of `play-piece`, which speak of no turns. Each move takes a byte or prints a line, and a line has a character or more, so as many
--- turns as there are bytes and room never run out. Assumes nothing.
+-- The laws of `play-piece`, which speak of no turns. Each move takes a byte or prints a line, and a line has a character or more, so as
+-- many turns as there are bytes and room never run out. Assumes nothing.
 use Prim.Native.Nat.{ℕ, zero, suc, _+_, _<_, _≤_}
 use mathlib.Core.Bool.{Bool, true, false, cond}
-use mathlib.Core.List.{List, [], _∷_, _++_}
+use mathlib.Core.List.{List, []}
 use mathlib.Core.Path.{_≡_, refl, sym, _∙_, ap, subst}
 use native.Mathlib.Omega.{arith}
 use borrow.Author.Tests.{lt-ltb, le-ltb, ltb-true, ltb-false}
@@ -18,7 +18,12 @@ use Rattle.player.specs.declared.place.Deed.{Deed}
 use Rattle.player.specs.declared.place.Deed.the-variants.{Say, Step, Ask, Silent}
 use Rattle.player.specs.Text.{line}
 use Rattle.player.specs.Pieces.{playing, at-end, Move, go, wait, may-come, refuse, finish, asked, play-now, take-record, next-record, go-on, look-behind, next, carry-out, printed, piece, lines-before, room-behind, play-in, play-piece}
-use Rattle.player.proofs.Entries.{entry-shorter}
+use Rattle.record.proofs.Laws.{entry-behind}
+
+-- what is true of either of two moves
+pub either : (P : Move → Type 0) (t : Bool) (x y : Move) → (t ≡ true → P x) → (t ≡ false → P y) → P (cond t x y)
+either P true x y h k = h refl
+either P false x y h k = k refl
 
 -- ---- what a move takes
 
@@ -29,10 +34,6 @@ Leaves n d rest = (a room : ℕ) → 1 ≤ room → length rest + room-behind (p
 abbrev Spends : ℕ → Move → Type 0
 Spends n (go d q rest) = Leaves n d rest
 Spends n wait = Unit {0}
-
-either : (n : ℕ) (t : Bool) (x y : Move) → Spends n x → Spends n y → Spends n (cond t x y)
-either n true x y h k = h
-either n false x y h k = k
 
 line-length : (a : ℕ) → 1 ≤ length (line a)
 unfolding line
@@ -57,34 +58,32 @@ by-step n rest h a room r = omega (arith, line-length a)
 
 take-spends : (n : ℕ) (p : Place) (ns rest : List ℕ) → length rest < n → Spends n (take-record p ns rest)
 unfolding take-record finish play-now
-take-spends n p ns rest h =
-    either n (is-end ns) _ _ (either n (eqb (getD ns 1 0) (p .count)) _ _ (by-byte n Silent rest h) (by-byte n (Say too-large) rest h)) (either n (eqb (p .stage) playing) _ _ (either n (eqb (getD ns 0 0) 11) _ _ (by-byte n Silent rest h) (by-byte n (asked (request-of (getD ns 0 0) (getD ns 1 0) (getD ns 2 0) (getD ns 3 0))) rest h)) (by-byte n Silent rest h))
+take-spends n p ns rest h = either (Spends n) (is-end ns) _ _ (λ z. either (Spends n) (eqb (getD ns 1 0) (p .count)) _ _ (λ c. by-byte n Silent rest h) (λ c. by-byte n (Say too-large) rest h)) (λ z. either (Spends n) (eqb (p .stage) playing) _ _ (λ s. either (Spends n) (eqb (getD ns 0 0) 11) _ _ (λ k. by-byte n Silent rest h) (λ k. by-byte n (asked (request-of (getD ns 0 0) (getD ns 1 0) (getD ns 2 0) (getD ns 3 0))) rest h)) (λ s. by-byte n Silent rest h))
 
 record-spends : (last : Bool) (p : Place) (bs : List ℕ) → Spends (length bs) (next-record last p bs)
 unfolding next-record refuse
 record-spends last p bs = of (entry kinds bs) refl
   where
     of : (x : Item) → entry kinds bs ≡ x → Spends (length bs) (next-record last p bs)
-    of (whole ns rest) e = rw (e, next-record, Spends) (take-spends (length bs) p ns rest (entry-shorter kinds bs ns rest e))
-    of (fault a) e = rw (e, next-record, Spends) (either _ (may-come last a) _ _ tt (by-say (length bs) a bs (omega arith)))
+    of (whole ns rest) e = rw (e, next-record, Spends) (take-spends (length bs) p ns rest (entry-behind kinds bs ns rest e .shorter))
+    of (fault a) e = rw (e, next-record, Spends) (either (Spends (length bs)) (may-come last a) _ _ (λ m. tt) (λ m. by-say (length bs) a bs (omega arith)))
 
 next-spends : (last : Bool) (p : Place) (bs : List ℕ) → Spends (length bs) (next last p bs)
 unfolding next go-on look-behind
-next-spends last p bs =
-    either _ (ltb (p .stage) at-end) _ _ (either _ (eqb (p .left) 0) _ _ (record-spends last p bs) (by-step (length bs) bs (omega arith))) (either _ (eqb (p .stage) at-end) _ _ (either _ (nothing-behind bs) _ _ tt (by-say (length bs) bytes-after bs (omega arith))) tt)
+next-spends last p bs = either (Spends (length bs)) (ltb (p .stage) at-end) _ _ (λ e. either (Spends (length bs)) (eqb (p .left) 0) _ _ (λ l. record-spends last p bs) (λ l. by-step (length bs) bs (omega arith))) (λ e. either (Spends (length bs)) (eqb (p .stage) at-end) _ _ (λ a. either (Spends (length bs)) (nothing-behind bs) _ _ (λ n. tt) (λ n. by-say (length bs) bytes-after bs (omega arith))) (λ a. tt))
 
 -- ---- any number of turns
 
-in-full : (turns : ℕ) (last : Bool) (room : ℕ) (p : Place) (bs : List ℕ) (b : Box) → room < 3 → play-in turns last room p bs b ≡ piece [] b p bs false
+pub in-full : (turns : ℕ) (last : Bool) (room : ℕ) (p : Place) (bs : List ℕ) (b : Box) → room < 3 → play-in turns last room p bs b ≡ piece [] b p bs false
 unfolding play-in
 in-full zero last room p bs b h = refl
 in-full (suc turns) last room p bs b h = rw (lt-ltb room 3)
 
-in-waits : (turns : ℕ) (last : Bool) (room : ℕ) (p : Place) (bs : List ℕ) (b : Box) → 3 ≤ room → next last p bs ≡ wait → play-in (suc turns) last room p bs b ≡ piece [] b p bs true
+pub in-waits : (turns : ℕ) (last : Bool) (room : ℕ) (p : Place) (bs : List ℕ) (b : Box) → 3 ≤ room → next last p bs ≡ wait → play-in (suc turns) last room p bs b ≡ piece [] b p bs true
 unfolding play-in
 in-waits turns last room p bs b h e = rw (le-ltb room 3, e)
 
-in-goes : (turns : ℕ) (last : Bool) (room : ℕ) (p : Place) (bs : List ℕ) (b : Box) (d : Deed) (q : Place) (rest : List ℕ) → 3 ≤ room → next last p bs ≡ go d q rest → play-in (suc turns) last room p bs b ≡ lines-before (printed d (carry-out d b .answer)) (play-in turns last (room-behind (printed d (carry-out d b .answer)) room) q rest (carry-out d b .box))
+pub in-goes : (turns : ℕ) (last : Bool) (room : ℕ) (p : Place) (bs : List ℕ) (b : Box) (d : Deed) (q : Place) (rest : List ℕ) → 3 ≤ room → next last p bs ≡ go d q rest → play-in (suc turns) last room p bs b ≡ lines-before (printed d (carry-out d b .answer)) (play-in turns last (room-behind (printed d (carry-out d b .answer)) room) q rest (carry-out d b .box))
 unfolding play-in
 in-goes turns last room p bs b d q rest h e = rw (le-ltb room 3, e)
 

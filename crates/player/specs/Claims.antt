@@ -1,0 +1,24 @@
+-- The theorem of playing in pieces: wherever a string is cut, and whatever calls play it, the lines are those of the whole string.
+use Prim.Native.Nat.{ℕ, _≤_}
+use mathlib.Core.List.{List, []}
+use mathlib.Core.Path.{_≡_}
+use lib.ListN.{length}
+use Rattle.rules.specs.Limits.{most-words, most-entries}
+use Rattle.rules.specs.Parts.{Box}
+use Rattle.player.specs.Lines.{lines}
+use Rattle.player.specs.Pieces.{start}
+use Rattle.player.specs.Calls.{Plays}
+
+-- the columns that are lent are as long as the largest box
+pub record Ample (b : Box) : Type 0 where
+  pub words : most-words ≤ length (b .memory .words)
+  pub flags : most-words ≤ length (b .memory .flags)
+  pub addresses : most-entries ≤ length (b .directory .addresses)
+  pub sizes : most-entries ≤ length (b .directory .sizes)
+  pub links : most-entries ≤ length (b .directory .links)
+  pub marks : most-entries ≤ length (b .directory .marks)
+  pub deeps : most-entries ≤ length (b .directory .deeps)
+
+-- whatever the columns hold
+abbrev pub PiecesClaim : Type 0
+PiecesClaim = (b : Box) → Ample b → (bs out : List ℕ) → Plays start b [] bs out → out ≡ lines bs
