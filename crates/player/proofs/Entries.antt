@@ -1,5 +1,5 @@
--- What playing needs of the reader beside its laws. No refusal is 0: by the groups of a number, then field by field. And a count of
--- records above all numbers of 32 bits may stand still: the count at the end is such a number, so it is none above. Assumes nothing.
+-- What playing needs of the reader beside its laws: a count of records above all numbers of 32 bits may stand still, since the count at
+-- the end is such a number, and so none above. Assumes nothing.
 use Prim.Native.Nat.{ℕ, zero, suc, _<_, _≤_}
 use mathlib.Core.Bool.{Bool, true, false, cond}
 use mathlib.Core.List.{List, [], _∷_}
@@ -16,75 +16,6 @@ use Rattle.record.specs.Fields.{most32, Item, whole, fault, row, kinds, joined,
 use Rattle.record.specs.Reading.{reading, item-before, is-end, ending, records}
 use Rattle.record.proofs.Laws.{fault-not-whole, field-bound, fields-found, fields-refused, entry-found, entry-refused, entry-behind, records-fault, records-end, records-item}
 use Rattle.player.specs.Pieces.{one-more}
-
--- ---- no refusal is 0
-
-abbrev NotZero : Number → Type 0
-NotZero (found n rest) = Unit {0}
-NotZero (refused a) = a ≢ 0
-
-either : (t : Bool) (x y : Number) → NotZero x → NotZero y → NotZero (cond t x y)
-either true x y h k = h
-either false x y h k = k
-
-before-not-0 : (g : ℕ) (x : Number) → NotZero x → NotZero (before g x)
-unfolding before
-before-not-0 g (found n rest) h = tt
-before-not-0 g (refused a) h = h
-
-more-not-0 : (k : ℕ) (bs : List ℕ) → NotZero (more-groups k bs)
-unfolding more-groups
-more-not-0 zero [] = omega arith
-more-not-0 (suc k) [] = omega arith
-more-not-0 zero (b ∷ bs) = either (eqb b 0) _ _ (omega arith) (either (leb b 15) _ _ tt (omega arith))
-more-not-0 (suc k) (b ∷ bs) = either (eqb b 0) _ _ (omega arith) (either (ltb b 128) _ _ tt (before-not-0 _ (more-groups k bs) (more-not-0 k bs)))
-
-number-not-0 : (bs : List ℕ) → NotZero (number bs)
-unfolding number
-number-not-0 [] = omega arith
-number-not-0 (b ∷ bs) = either (ltb b 128) _ _ tt (before-not-0 _ (more-groups 3 bs) (more-not-0 3 bs))
-
-within-not-0 : (l : ℕ) (x : Number) → NotZero x → NotZero (within l x)
-unfolding within
-within-not-0 l (found n rest) h = either (leb n l) _ _ tt (omega arith)
-within-not-0 l (refused a) h = h
-
-field-not-0 : (l : ℕ) (bs : List ℕ) → NotZero (field l bs)
-unfolding field
-field-not-0 l bs = within-not-0 l (number bs) (number-not-0 bs)
-
-abbrev NoZero : Item → Type 0
-NoZero (whole ns rest) = Unit {0}
-NoZero (fault a) = a ≢ 0
-
-joined-not-0 : (n : ℕ) (x : Item) → NoZero x → NoZero (joined n x)
-unfolding joined
-joined-not-0 n (whole ns rest) h = tt
-joined-not-0 n (fault a) h = h
-
-fields-not-0 : (ls bs : List ℕ) → NoZero (fields ls bs)
-unfolding fields
-fields-not-0 [] bs = tt
-fields-not-0 (l ∷ ls) bs = go (field l bs) refl (fields-not-0 ls)
-  where
-    go : (x : Number) → field l bs ≡ x → ((rest : List ℕ) → NoZero (fields ls rest)) → NoZero (fields (l ∷ ls) bs)
-    go (found n rest) e f = subst NoZero (sym (fields-found l ls bs n rest e)) (joined-not-0 n (fields ls rest) (f rest))
-    go (refused a) e f = subst NoZero (sym (fields-refused l ls bs a e)) (subst NotZero e (field-not-0 l bs))
-
-named-not-0 : (o : Option (List ℕ)) (k : ℕ) (rest : List ℕ) → NoZero (named o k rest)
-unfolding named
-named-not-0 none k rest = omega arith
-named-not-0 (some ls) k rest = joined-not-0 k (fields ls rest) (fields-not-0 ls rest)
-
-entry-not-0 : (table : ℕ → Option (List ℕ)) (bs : List ℕ) → NoZero (entry table bs)
-entry-not-0 table bs = go (number bs) refl
-  where
-    go : (x : Number) → number bs ≡ x → NoZero (entry table bs)
-    go (found k rest) e = subst NoZero (sym (entry-found table bs k rest e)) (named-not-0 (table k) k rest)
-    go (refused a) e = subst NoZero (sym (entry-refused table bs a e)) (subst NotZero e (number-not-0 bs))
-
-pub fault-not-0 : (table : ℕ → Option (List ℕ)) (bs : List ℕ) (a : ℕ) → entry table bs ≡ fault a → a ≢ 0
-fault-not-0 table bs a e = subst NoZero e (entry-not-0 table bs)
 
 -- ---- the count at the end
 

@@ -22,7 +22,8 @@ use Rattle.player.specs.declared.place.Place.{Place}
 use Rattle.player.specs.declared.place.Deed.the-variants.{Step, Silent}
 use Rattle.player.specs.Lines.{Played, line-before, play-steps, play-request, play-record, play-records, refusal-line}
 use Rattle.player.specs.Pieces.{playing, at-end, at, one-more, Move, go, wait, may-come, refuse, finish, asked, counted, play-now, take-record, next-record, go-on, look-behind, next, carry-out, printed}
-use Rattle.player.proofs.Entries.{fault-not-0, records-one-more}
+use Rattle.record.proofs.Refusals.{entry-fault-some}
+use Rattle.player.proofs.Entries.{records-one-more}
 use Rattle.player.proofs.Turns.{either}
 
 -- ---- what is still to be printed
@@ -136,7 +137,7 @@ module _ (last : Bool) (p : Place) (b : Box) (bs more : List ℕ) (early : ltb (
 
     refuse-follows : (a : ℕ) → Ends last more → entry kinds bs ≡ fault a → Follows last p b bs more (refuse last a p bs)
     unfolding refuse printed carry-out still
-    refuse-follows a f e = either (Follows last p b bs more) (may-come last a) _ _ (λ m l. absurd (never m l)) (λ m. reads (reading [] a) (records-fault (p .count) (bs ++ more) a (fault-stays kinds last bs more a f m e)) ∙ no-records (eqb (p .stage) playing) a b ∙ a-refusal a (fault-not-0 kinds bs a e))
+    refuse-follows a f e = either (Follows last p b bs more) (may-come last a) _ _ (λ m l. absurd (never m l)) (λ m. reads (reading [] a) (records-fault (p .count) (bs ++ more) a (fault-stays kinds last bs more a f m e)) ∙ no-records (eqb (p .stage) playing) a b ∙ a-refusal a (entry-fault-some kinds bs a e))
       where
         never : may-come last a ≡ true → last ≡ true → ⊥
         never m l = true≢false (cc (none-may-come a))

@@ -23,7 +23,7 @@ use Rattle.player.specs.Pieces.{at-start, playing, only-reading, at, Mov
 use Rattle.player.specs.Calls as calls
 use Rattle.player.specs.Calls.{Plays}
 use Rattle.player.specs.Claims.{Ample, PiecesClaim}
-use Rattle.player.proofs.Entries.{fault-not-0}
+use Rattle.record.proofs.Refusals.{entry-fault-some}
 use Rattle.player.proofs.Turns.{in-full, in-waits, in-goes}
 use Rattle.player.proofs.Still.{lines-behind, still, Ends, a-refusal, fault-stays, none-may-come, Follows, next-follows, Begun, next-begun}
 use Rattle.player.proofs.Opening.{opens, refuses}
@@ -76,7 +76,7 @@ lines-opened bs ns rest e = rw (e, read)
 
 lines-refused : (bs : List ℕ) (a : ℕ) → entry editions bs ≡ fault a → lines bs ≡ a ∷ []
 unfolding lines read lines-of play-items
-lines-refused bs a e = rw (e, read) (a-refusal a (fault-not-0 editions bs a e))
+lines-refused bs a e = rw (e, read) (a-refusal a (entry-fault-some editions bs a e))
 
 -- what was read is opened and played, or it is only read
 opened-lines : (ns bs : List ℕ) → in-range (getD ns 1 0) (getD ns 2 0) ≡ true → lines-of (item-before ns (records 0 bs)) ≡ 0 ∷ rest-lines (at playing 0 0 true) (opened (getD ns 1 0) (getD ns 2 0)) bs

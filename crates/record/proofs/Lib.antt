@@ -2,6 +2,7 @@ pub mod Requests
 pub mod Laws
 pub mod Groups
 pub mod Entries
+pub mod Refusals
 pub mod Rounds
 pub mod Strings
 pub mod Prefixes
