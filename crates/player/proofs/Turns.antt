@@ -72,6 +72,10 @@ next-spends : (last : Bool) (p : Place) (bs : List ℕ) → Spends (length bs) (
 unfolding next go-on look-behind
 next-spends last p bs = either (Spends (length bs)) (ltb (p .stage) at-end) _ _ (λ e. either (Spends (length bs)) (eqb (p .left) 0) _ _ (λ l. record-spends last p bs) (λ l. by-step (length bs) bs (omega arith))) (λ e. either (Spends (length bs)) (eqb (p .stage) at-end) _ _ (λ a. either (Spends (length bs)) (nothing-behind bs) _ _ (λ n. tt) (λ n. by-say (length bs) bytes-after bs (omega arith))) (λ a. tt))
 
+-- so a move leaves less of bytes and room together
+pub goes-less : (last : Bool) (p : Place) (bs : List ℕ) (d : Deed) (q : Place) (rest : List ℕ) → next last p bs ≡ go d q rest → (a room : ℕ) → 1 ≤ room → length rest + room-behind (printed d a) room < length bs + room
+goes-less last p bs d q rest e = subst (Spends (length bs)) e (next-spends last p bs)
+
 -- ---- any number of turns
 
 pub in-full : (turns : ℕ) (last : Bool) (room : ℕ) (p : Place) (bs : List ℕ) (b : Box) → room < 3 → play-in turns last room p bs b ≡ piece [] b p bs false
@@ -98,8 +102,7 @@ enough (suc t) (suc u) last room p bs b h k = by (ltb room 3) refl (next last p 
     by false l wait e same = in-waits t last room p bs b (ltb-false room 3 l) e ∙ sym (in-waits u last room p bs b (ltb-false room 3 l) e)
     by false l (go d q rest) e same =
         let r : 3 ≤ room = ltb-false room 3 l in
-        let s : Leaves (length bs) d rest = subst (Spends (length bs)) e (next-spends last p bs) in
-        let less : length rest + room-behind (printed d (carry-out d b .answer)) room < length bs + room = s (carry-out d b .answer) room (omega arith) in
+        let less : length rest + room-behind (printed d (carry-out d b .answer)) room < length bs + room = goes-less last p bs d q rest e (carry-out d b .answer) room (omega arith) in
         in-goes t last room p bs b d q rest r e ∙ ap (lines-before (printed d (carry-out d b .answer))) (same last (room-behind (printed d (carry-out d b .answer)) room) q rest (carry-out d b .box) (omega arith) (omega arith)) ∙ sym (in-goes u last room p bs b d q rest r e)
 
 -- ---- the laws
@@ -120,6 +123,5 @@ module _ (last : Bool) (room : ℕ) (p : Place) (bs : List ℕ) (b : Box) where
   pub piece-goes : {d : Deed} {q : Place} {rest : List ℕ} → 3 ≤ room → next last p bs ≡ go d q rest → play-piece last room p bs b ≡ lines-before (printed d (carry-out d b .answer)) (play-piece last (room-behind (printed d (carry-out d b .answer)) room) q rest (carry-out d b .box))
   unfolding play-piece
   piece-goes {d} {q} {rest} h e =
-      let s : Leaves (length bs) d rest = subst (Spends (length bs)) e (next-spends last p bs) in
-      let less : length rest + room-behind (printed d (carry-out d b .answer)) room < length bs + room = s (carry-out d b .answer) room (omega arith) in
+      let less : length rest + room-behind (printed d (carry-out d b .answer)) room < length bs + room = goes-less last p bs d q rest e (carry-out d b .answer) room (omega arith) in
       one-turn h ∙ in-goes (length bs + room) last room p bs b d q rest h e ∙ ap (lines-before (printed d (carry-out d b .answer))) (enough (length bs + room) (length rest + room-behind (printed d (carry-out d b .answer)) room) last (room-behind (printed d (carry-out d b .answer)) room) q rest (carry-out d b .box) (omega arith) (omega arith))

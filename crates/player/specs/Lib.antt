@@ -2,5 +2,6 @@ pub mod Lines
 pub mod Text
 pub mod Pieces
 pub mod Moves
+pub mod Outcome
 pub mod Calls
 pub mod Claims

@@ -1,6 +1,7 @@
 // Playing a record on the memory unit, in pieces.
 mod moves;
 mod place;
+mod playing;
 mod text;
 
 pub use place::Deed;
