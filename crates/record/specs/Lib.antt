@@ -4,5 +4,6 @@ pub mod Asked
 pub mod Fields
 pub mod Reading
 pub mod Writing
+pub mod WritingSteps
 pub mod Promises
 pub mod Examples
