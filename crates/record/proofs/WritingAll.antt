@@ -127,10 +127,10 @@ writes-as ns old new count answer w e p c a =
       answered = a ∙ ap (λ (v : Writing). v .answer) (sym e);
     }
 
-module _ (ns old short new : List ℕ) (count answer : ℕ) (e : given-back new count [] answer ≡ store short 0 (to-the-end (write ns))) where
+module _ (ns old spare new : List ℕ) (count answer : ℕ) (e : given-back new count [] answer ≡ store spare 0 (to-the-end (write ns))) where
   pub write-refused : (answer ≡ 0 → ⊥) → Writes ns old old 0 answer
   write-refused z =
-      let r = pass-refused (write ns) short new count answer e z in
+      let r = pass-refused (write ns) spare new count answer e z in
       let b = clean ns (r .nonzero) in
       writes-as ns old old 0 answer (write ns) (into-fits (length old) ns (omega (arith, ap length b)))
       (ap (λ (l : List ℕ). l ++ drop (length l) old) (sym b))
@@ -139,14 +139,14 @@ module _ (ns old short new : List ℕ) (count answer : ℕ) (e : given-back new 
 
   pub write-short : answer ≡ 0 → length old < count → Writes ns old old 0 too-short
   write-short z h =
-      let s = pass-stored (write ns) short new count answer e z in
+      let s = pass-stored (write ns) spare new count answer e z in
       writes-as ns old old 0 too-short (writing [] too-short) (into-short (length old) ns (omega (arith, s .many))) refl refl refl
 
   pub write-put : answer ≡ 0 → count ≤ length old → (after : List ℕ) (many again : ℕ) → given-back after many [] again ≡ store old 0 (to-the-end (write ns)) → Writes ns old after many again
   write-put z h after many again f = go (eqb again 0) refl
     where
-      first : Stores (write ns) short new count
-      first = pass-stored (write ns) short new count answer e z
+      first : Stores (write ns) spare new count
+      first = pass-stored (write ns) spare new count answer e z
 
       go : (t : Bool) → eqb again 0 ≡ t → Writes ns old after many again
       go true q =

@@ -15,20 +15,20 @@ pub struct Wrote {
     pub answer: u32,
 }
 
-// The fields of an edition or a kind: how many, and the largest number for each. None of them: there is no such edition or kind.
+// The fields of an edition or a kind: how many, and the largest number for each. With none there is no such edition or kind.
 struct Limits {
     count: usize,
     most: [u32; 3],
 }
 
-// An entry is taken: where the next number is, the place behind the bytes, and the answer.
+// After an entry: where the next number is, the place behind the bytes, and the answer.
 struct Took {
     next: usize,
     end: usize,
     answer: u32,
 }
 
-// The answers, as document 02 numbers them; and the list that ends inside a record.
+// The answers of document 02, and the one for a list that ends inside an entry.
 const UNKNOWN: u32 = 22;
 
 const TOO_LARGE: u32 = 23;
@@ -51,8 +51,8 @@ fn put_byte(b: u8, bytes: &mut [u8], at: usize)
     }
 }
 
-// Stores the bytes of a number, the lowest seven bits first, the high bit set on all but the last; gives back the place behind
-// them.
+// Stores the bytes of a number from `at` on, the lowest seven bits first, the high bit set on all but the last. Gives back the
+// place behind them.
 fn put_number(n: u32, bytes: &mut [u8], at: usize) -> usize
     requires { ⌜ at + 5 < 2 ^ 64 ⌝ }
     ensures { λ r. ⌜ Puts n (now (bytes .entry)) (now (bytes .exit)) at r ⌝ }
@@ -116,8 +116,8 @@ fn record_limits(kind: u32) -> Limits
     }
 }
 
-// Takes a number for each limit, from the number `at` on, and stores its bytes from `to` on: 4294967295 where the list ends
-// before that, 23 where a number is above its limit.
+// Takes a number for each limit, from the number `at` on, and stores their bytes from `to` on. Answers 23 where a number is above
+// its limit, 4294967295 where the list ends too soon. A number has at most five bytes, so no place is too large.
 fn put_fields(fields: Limits, numbers: &[u32], at: usize, bytes: &mut [u8], to: usize) -> Took
     requires { ⌜ (fields .count ≤ 3) × (at ≤ length (now numbers)) × (to ≤ 5 * at) ⌝ }
     ensures { λ r. ⌜ Takes (take-fields (take (fields .count) (fields .most)) (drop at (now (numbers .entry)))) (now (numbers .entry)) (now (bytes .entry)) (now (bytes .exit)) at to (r .next) (r .end) (r .answer) ⌝ }
@@ -154,7 +154,7 @@ fn put_fields(fields: Limits, numbers: &[u32], at: usize, bytes: &mut [u8], to: 
     }
 }
 
-// Takes the number `at`, which names these fields, and then its fields: 22 where it names none.
+// Takes the number `at`, which names these fields, and then the fields. Answers 22 where it names none.
 fn put_entry(fields: Limits, numbers: &[u32], at: usize, bytes: &mut [u8], to: usize) -> Took
     requires { ⌜ (fields .count ≤ 3) × (at < length (now numbers)) × (to ≤ 5 * at) ⌝ }
     ensures { λ r. ⌜ Takes (take-named (limits (fields .count) (fields .most)) (getD (now (numbers .entry)) at 0) (drop (at + 1) (now (numbers .entry)))) (now (numbers .entry)) (now (bytes .entry)) (now (bytes .exit)) (at + 1) to (r .next) (r .end) (r .answer) ⌝ }
@@ -173,7 +173,7 @@ fn put_entry(fields: Limits, numbers: &[u32], at: usize, bytes: &mut [u8], to: u
     put_fields(fields, numbers, next, bytes, end)
 }
 
-// Stores the end: kind 0 and how many records came before it; 23 where that is no number of 32 bits.
+// Stores the end: kind 0 and how many records came before it. Answers 23 where that is no number of 32 bits.
 fn put_end(records: usize, bytes: &mut [u8], to: usize) -> Wrote
     requires { ⌜ to + 10 < 2 ^ 64 ⌝ }
     ensures { λ r. ⌜ given-back (now (bytes .exit)) (r .count) [] (r .answer) ≡ store (now (bytes .entry)) to (to-the-end (write-end records)) ⌝ }
@@ -189,7 +189,7 @@ fn put_end(records: usize, bytes: &mut [u8], to: usize) -> Wrote
     Wrote { count, answer: 0 }
 }
 
-// Takes the records from the number `at` on, and stores their bytes and the end's from `to` on.
+// Takes the records from the number `at` on, and stores their bytes and those of the end from `to` on.
 fn put_records(numbers: &[u32], at: usize, bytes: &mut [u8], to: usize) -> Wrote
     requires { ⌜ (at ≤ length (now numbers)) × (to ≤ 5 * at) ⌝ }
     ensures { λ r. ⌜ given-back (now (bytes .exit)) (r .count) [] (r .answer) ≡ store (now (bytes .entry)) to (to-the-end (write-records 0 (drop at (now (numbers .entry))))) ⌝ }
@@ -212,7 +212,8 @@ fn put_records(numbers: &[u32], at: usize, bytes: &mut [u8], to: usize) -> Wrote
     put_end(records, bytes, end)
 }
 
-// Goes through all the numbers and stores the bytes that fit; gives back how many there are, or what refuses the list.
+// Goes through all the numbers and stores as many bytes as the lent ones hold. Gives back how many there are, or what refuses
+// the list.
 fn put_all(numbers: &[u32], bytes: &mut [u8]) -> Wrote
     ensures { λ r. ⌜ given-back (now (bytes .exit)) (r .count) [] (r .answer) ≡ store (now (bytes .entry)) 0 (to-the-end (Writing.write (now (numbers .entry)))) ⌝ }
 {
@@ -240,7 +241,8 @@ fn put_all(numbers: &[u32], bytes: &mut [u8]) -> Wrote
 pub fn write(numbers: &[u32], bytes: &mut [u8]) -> Wrote
     ensures { λ r. ⌜ Writes (now (numbers .entry)) (now (bytes .entry)) (now (bytes .exit)) (r .count) (r .answer) ⌝ }
 {
-    let mut nowhere = [0u8; 1];
+    // The first pass has no bytes to store into.
+    let mut nowhere = [0u8; 0];
     let measured = put_all(numbers, &mut nowhere);
     let answer = measured.answer;
     if answer != 0 {
