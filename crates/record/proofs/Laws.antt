@@ -9,19 +9,16 @@ use mathlib.Core.Path.{_≡_, refl, sym, _∙_, ap, subst}
 use native.Mathlib.Nat.{pow-succ', one-le-pow}
 use native.Mathlib.Omega.{arith}
 use lib.Dec.{leb, ltb, eqb}
-use lib.ListN.{length, drop, getD}
+use lib.ListN.{length, drop}
 use lib.Seq.{drop-drop}
 use borrow.Author.Tests.{ltb-true, ltb-false, leb-true, eqb-false}
 use Rattle.record.specs.Number.{Number, found, refused, cut, long-form, unknown, too-large, before, more-groups, number, number-bytes}
 use Rattle.record.specs.Fields.{Item, whole, fault, joined, within, field, fields, named, entry, kinds}
 use Rattle.record.specs.Reading.{Reading, reading, item-before, is-end, nothing-behind, ending, records-in, records}
 use Rattle.record.specs.Writing.{Taken, taken, turned-down, writing, written-before, write-end, bytes-before, take-fields, take-named, take-entry, write-in, write-records}
+pub use Rattle.record.specs.Claims.{AllBytes}
 
 -- ---- what is left is an end of the bytes
-
--- every element is a byte
-abbrev pub AllBytes : List ℕ → Type 0
-AllBytes bs = (i : ℕ) → i < length bs → getD bs i 0 < 256
 
 pub bytes-tail : (b : ℕ) (bs : List ℕ) → AllBytes (b ∷ bs) → AllBytes bs
 bytes-tail b bs all i h = all (suc i) (omega arith)

@@ -1,5 +1,9 @@
 pub mod Requests
 pub mod Laws
+pub mod Rounds
+pub mod Strings
+pub mod Prefixes
+pub mod Theorems
 pub mod WritingTables
 pub mod WritingNumbers
 pub mod WritingEntries

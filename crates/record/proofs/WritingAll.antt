@@ -1,22 +1,22 @@
 -- The whole list, from its edition on; and the two passes of the writer: the first gives how many bytes there are, and the second, which
 -- has room for them, stores them. What is refused has no bytes. Assumes nothing.
-use Prim.Native.Nat.{ℕ, zero, suc, _+_, _≤_, _<_}
-use native.Mathlib.Nat.{zero-add}
+use Prim.Native.Nat.{ℕ, _+_, _≤_, _<_}
+use native.Mathlib.Nat.{zero-add, le-refl}
 use native.Mathlib.Omega.{arith}
 use mathlib.Core.Bool.{Bool, true, false, cond}
 use mathlib.Core.List.{List, [], _∷_, _++_}
 use mathlib.Core.Option.{Option}
 use mathlib.Core.Path.{_≡_, refl, sym, _∙_, ap}
 use borrow.Author.Tests.{le-leb, lt-leb, eqb-true, eqb-false}
-use lib.Dec.{eqb, leb}
+use lib.Dec.{eqb}
 use lib.ListN.{length, drop, getD}
 use lib.Seq.{sets, sets-eq}
-use Rattle.record.specs.Number.{number-bytes, unknown, too-large, too-short, not-understood}
-use Rattle.record.specs.Fields.{most32, kinds, editions}
-use Rattle.record.specs.Reading.{is-end, nothing-behind}
-use Rattle.record.specs.Writing.{Taken, taken, turned-down, take-named, take-entry, Writing, writing, written-before, write-end, write-in, write-records, write, if-room, write-into}
+use Rattle.record.specs.Number.{too-short, not-understood}
+use Rattle.record.specs.Fields.{editions}
+use Rattle.record.specs.Writing.{taken, turned-down, take-named, take-entry, Writing, writing, write-records, write, if-room, write-into}
 use Rattle.record.specs.WritingSteps.{Takes, stored, not-stored, store, given-back, to-the-end, limits, Limited}
 use Rattle.record.specs.Promises.{Writes}
+use Rattle.record.proofs.Theorems.{refused-writes-nothing}
 use Rattle.record.proofs.WritingRecords.{before-records, back-taken, back-refused, went-on, stopped}
 
 -- ---- the edition, and what is behind it
@@ -41,46 +41,6 @@ module _ (ns old new : List ℕ) (count : ℕ) (most : List ℕ) (next end answe
   all-taken z =
       went-on 0 old new (drop next ns) 0 end answer (take-named (limits count most) (getD ns 0 0) (drop 1 ns)) z (t .took)
       ∙ ap (λ (w : Writing). store old 0 (to-the-end w)) (sym (edition-first ns count most h l))
-
--- ---- refused, there are no bytes
-
-abbrev Clean : Writing → Type 0
-Clean w = (w .answer ≡ 0 → ⊥) → w .bytes ≡ []
-
-clean-before : (bs : List ℕ) (w : Writing) → Clean w → Clean (written-before bs w)
-clean-before bs w c = go (eqb (w .answer) 0)
-  where
-    go : (t : Bool) → Clean (cond t (writing (bs ++ w .bytes) 0) w)
-    go true z = absurd (z refl)
-    go false z = c z
-
-clean-end : (count : ℕ) → Clean (write-end count)
-unfolding write-end
-clean-end count = go (leb count most32)
-  where
-    go : (t : Bool) → Clean (cond t (writing (number-bytes 0 ++ number-bytes count) 0) (writing [] too-large))
-    go true z = absurd (z refl)
-    go false z = refl
-
-clean-in : (turns count : ℕ) (ns : List ℕ) → Clean (write-in turns count ns)
-unfolding write-in
-clean-in zero count ns = clean-end count
-clean-in (suc turns) count ns = go (nothing-behind ns) (is-end ns) (take-entry kinds ns) (λ r. clean-in turns (suc count) r)
-  where
-    go : (b z : Bool) (t : Taken) → ((r : List ℕ) → Clean (write-in turns (suc count) r))
-        → Clean (cond b (write-end count) (cond z (writing [] unknown) (elim t [ taken bs rest ↦ written-before bs (write-in turns (suc count) rest) | turned-down a ↦ writing [] a ])))
-    go true z t ih = clean-end count
-    go false true t ih = λ y. refl
-    go false false (taken bs rest) ih = clean-before bs (write-in turns (suc count) rest) (ih rest)
-    go false false (turned-down a) ih = λ y. refl
-
-clean : (ns : List ℕ) → Clean (write ns)
-unfolding write write-records
-clean ns = go (take-entry editions ns)
-  where
-    go : (t : Taken) → Clean (before-records 0 t)
-    go (taken bs rest) = clean-before bs (write-records 0 rest) (clean-in (length rest) 0 rest)
-    go (turned-down a) = λ y. refl
 
 -- ---- what the answer of a pass says of the bytes
 
@@ -119,6 +79,12 @@ into-short : (room : ℕ) (ns : List ℕ) → room < length (write ns .bytes) �
 unfolding write-into if-room
 into-short room ns h = simp (lt-leb (length (write ns .bytes)) room h)
 
+-- refused, there are no bytes: so where all of them fit
+no-bytes : (ns : List ℕ) → (write ns .answer ≡ 0 → ⊥) → write ns .bytes ≡ []
+no-bytes ns z =
+    let e = into-fits (length (write ns .bytes)) ns (le-refl (length (write ns .bytes))) in
+    ap (λ (w : Writing). w .bytes) (sym e) ∙ refused-writes-nothing (length (write ns .bytes)) ns (λ q. z (ap (λ (w : Writing). w .answer) (sym e) ∙ q))
+
 writes-as : (ns old new : List ℕ) (count answer : ℕ) (w : Writing) → write-into (length old) ns ≡ w → new ≡ w .bytes ++ drop (length (w .bytes)) old → count ≡ length (w .bytes) → answer ≡ w .answer → Writes ns old new count answer
 writes-as ns old new count answer w e p c a =
     record {
@@ -131,7 +97,7 @@ module _ (ns old spare new : List ℕ) (count answer : ℕ) (e : given-back new 
   pub write-refused : (answer ≡ 0 → ⊥) → Writes ns old old 0 answer
   write-refused z =
       let r = pass-refused (write ns) spare new count answer e z in
-      let b = clean ns (r .nonzero) in
+      let b = no-bytes ns (r .nonzero) in
       writes-as ns old old 0 answer (write ns) (into-fits (length old) ns (omega (arith, ap length b)))
       (ap (λ (l : List ℕ). l ++ drop (length l) old) (sym b))
       (sym (ap length b))

@@ -7,3 +7,4 @@ pub mod Writing
 pub mod WritingSteps
 pub mod Promises
 pub mod Examples
+pub mod Claims
