@@ -7,3 +7,8 @@ pub mod Rounds
 pub mod Strings
 pub mod Prefixes
 pub mod Theorems
+pub mod WritingTables
+pub mod WritingNumbers
+pub mod WritingEntries
+pub mod WritingRecords
+pub mod WritingAll

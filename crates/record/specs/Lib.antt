@@ -5,6 +5,7 @@ pub mod Fields
 pub mod Reading
 pub mod Found
 pub mod Writing
+pub mod WritingSteps
 pub mod Promises
 pub mod Examples
 pub mod Claims
