@@ -4,5 +4,6 @@ pub mod Entries
 pub mod Turns
 pub mod Turning
 pub mod Still
-pub mod Opening
+pub mod Opened
+pub mod Parts
 pub mod Theorem

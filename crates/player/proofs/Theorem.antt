@@ -26,7 +26,7 @@ use Rattle.player.specs.Claims.{Ample, PiecesClaim}
 use Rattle.record.proofs.Refusals.{entry-fault-some}
 use Rattle.player.proofs.Turns.{in-full, in-waits, in-goes}
 use Rattle.player.proofs.Still.{lines-behind, still, Ends, a-refusal, fault-stays, none-may-come, Follows, next-follows, Begun, next-begun}
-use Rattle.player.proofs.Opening.{opens, refuses}
+use Rattle.player.proofs.Opened.{opens, refuses}
 
 -- ---- a piece
 

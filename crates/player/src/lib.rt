@@ -1,5 +1,6 @@
 // Playing a record on the memory unit, in pieces.
 mod moves;
+mod opening;
 mod place;
 mod playing;
 mod text;
