@@ -2,3 +2,4 @@ pub mod Requests
 pub mod Laws
 pub mod Groups
 pub mod Entries
+pub mod Readings

@@ -2,9 +2,12 @@
 mod asked;
 mod entry;
 mod number;
+mod reading;
 
 pub use asked::Asked;
 pub use asked::request_of;
 pub use entry::Entry;
 pub use entry::head_of;
 pub use entry::record_at;
+pub use reading::Got;
+pub use reading::read;
