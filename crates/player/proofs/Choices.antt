@@ -18,14 +18,14 @@ use Rattle.record.specs.Asked.{asked-as}
 use Rattle.record.specs.Requests.{request-of}
 use Rattle.record.specs.Fields.{Item, whole, fault, kinds, entry}
 use Rattle.record.specs.Reading.{nothing-behind}
-use Rattle.record.specs.Found.{place-of, as-entry}
+use Rattle.record.specs.Found.{place-of, as-entry, fault-of}
 use Rattle.player.specs.declared.place.Place.{Place}
 use Rattle.player.specs.declared.place.Deed.{Deed}
 use Rattle.player.specs.declared.place.Deed.the-variants.{Say, Step, Ask, Silent}
 use Rattle.player.specs.declared.moves.Move as code
 use Rattle.player.specs.declared.moves.Move.the-variants.{Go, Wait}
 use Rattle.player.specs.Pieces.{Move, go, wait, ended, may-come, refuse, asked, take-record, next-record}
-use Rattle.player.specs.Moves.{as-move, fault-in}
+use Rattle.player.specs.Moves.{as-move}
 
 -- ---- a refusal
 
@@ -60,7 +60,7 @@ asks-nothing k (some r) e u = let z : Known r ≡ Unknown = sym e ∙ u in absur
 
 -- ---- a record
 
-pub record-faulty : (last : Bool) (p : Place) (n : ℕ) (bs : List ℕ) (x : Item) → entry kinds bs ≡ x → (e : Entry) → e ≡ as-entry n x → (a : ℕ) → e ≡ Faulty a → next-record last p bs ≡ refuse last (fault-in e) p bs
+pub record-faulty : (last : Bool) (p : Place) (n : ℕ) (bs : List ℕ) (x : Item) → entry kinds bs ≡ x → (e : Entry) → e ≡ as-entry n x → (a : ℕ) → e ≡ Faulty a → next-record last p bs ≡ refuse last (fault-of e) p bs
 unfolding next-record
 record-faulty last p n bs (fault b) i e u a w = let z : Faulty b ≡ Faulty a = sym u ∙ w in let y : b ≡ a = cc in rw (i, next-record, w, y)
 record-faulty last p n bs (whole ns rest) i e u a w = let z : Whole (getD ns 0 0) (getD ns 1 0) (getD ns 2 0) (getD ns 3 0) (place-of n rest) ≡ Faulty a = sym u ∙ w in absurd (let v : _≡_ {A = ℕ} 0 1 = cc in omega arith)

@@ -1,8 +1,6 @@
 -- What the code hands on: a place in the lent bytes stands for the bytes behind it.
 use Prim.Native.Nat.{ℕ}
 use Rattle.record.specs.Found.{place-of}
-use Rattle.record.specs.declared.entry.Entry.{Entry}
-use Rattle.record.specs.declared.entry.Entry.the-variants.{Whole, Faulty}
 use Rattle.player.specs.declared.moves.Move as code
 use Rattle.player.specs.declared.moves.Move.the-variants.{Go, Wait}
 use Rattle.player.specs.Pieces.{Move, go, wait}
@@ -10,8 +8,3 @@ use Rattle.player.specs.Pieces.{Move, go, wait}
 abbrev pub as-move : ℕ → Move → code.Move
 as-move n (go d p rest) = Go d p (place-of n rest)
 as-move n wait = Wait
-
--- what refuses an entry
-abbrev pub fault-in : Entry → ℕ
-fault-in (Whole k a b c next) = 0
-fault-in (Faulty a) = a

@@ -3,6 +3,7 @@ use crate::place::Deed;
 use crate::place::Place;
 use record::Asked;
 use record::Entry;
+use record::fault_of;
 use record::record_at;
 use record::request_of;
 ghost use mathlib.Core.List.{List};
@@ -14,7 +15,7 @@ ghost use Rattle.record.specs.Requests.{request-of};
 ghost use Rattle.player.specs.declared.place.Deed.the-variants.{Say};
 ghost use Rattle.player.specs.declared.moves.Move.the-variants.{Go};
 ghost use Rattle.player.specs.Pieces.{ended, one-more, counted, refuse, finish, asked, play-now, take-record, next-record, go-on, look-behind, next};
-ghost use Rattle.player.specs.Moves.{as-move, fault-in};
+ghost use Rattle.player.specs.Moves.{as-move};
 
 // A deed, where the playing then stands, and the place behind what was read; or nothing can be done with the bytes at hand.
 pub enum Move {
@@ -152,22 +153,6 @@ fn take_record(place: Place, kind: u32, a: u32, b: u32, c: u32, next: usize) -> 
     }
 }
 
-// What refuses an entry; 0 where it is whole.
-pub(crate) fn fault_in(e: Entry) -> u32
-    ensures { λ r. ⌜ r ≡ fault-in e ⌝ }
-{
-    match e {
-        Entry::Whole {
-            kind: _,
-            a: _,
-            b: _,
-            c: _,
-            next: _,
-        } => 0,
-        Entry::Faulty(a) => a,
-    }
-}
-
 fn next_record(last: bool, place: Place, input: &[u8], at: usize) -> Move
     requires { ⌜ at ≤ length (now input) ⌝ }
     ensures { λ r. ⌜ r ≡ as-move (length (now (input .entry))) (next-record last place (drop at (now (input .entry)))) ⌝ }
@@ -181,7 +166,7 @@ fn next_record(last: bool, place: Place, input: &[u8], at: usize) -> Move
         next,
     } = e
     else {
-        return refuse(last, fault_in(e), place, at);
+        return refuse(last, fault_of(e), place, at);
     };
     take_record(place, kind, a, b, c, next)
 }

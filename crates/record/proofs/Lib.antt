@@ -12,3 +12,4 @@ pub mod WritingNumbers
 pub mod WritingEntries
 pub mod WritingRecords
 pub mod WritingAll
+pub mod Readings

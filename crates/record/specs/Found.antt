@@ -26,3 +26,8 @@ refusal-of (Refused a) = a
 abbrev pub as-entry : ℕ → Item → Entry
 as-entry n (whole ns rest) = Whole (getD ns 0 0) (getD ns 1 0) (getD ns 2 0) (getD ns 3 0) (place-of n rest)
 as-entry n (fault a) = Faulty a
+
+-- what refuses an entry
+abbrev pub fault-of : Entry → ℕ
+fault-of (Whole k a b c at) = 0
+fault-of (Faulty a) = a

@@ -6,7 +6,7 @@ ghost use mathlib.Core.List.{[], _∷_};
 ghost use mathlib.Core.Path.{_≡_};
 ghost use lib.ListN.{length, drop};
 ghost use Rattle.record.specs.Fields.{most16, joined, field, fields, kinds, editions, entry};
-ghost use Rattle.record.specs.Found.{as-number, as-entry};
+ghost use Rattle.record.specs.Found.{as-number, as-entry, fault-of};
 
 // What was read whole: a kind or an edition, its fields, 0 for those that it does not have, and the place behind it; or what refuses it.
 pub enum Entry {
@@ -99,6 +99,22 @@ fn three(bytes: &[u8], at: usize, kind: u32) -> Entry
         b,
         c,
         next,
+    }
+}
+
+// What refuses an entry; 0 where it was whole.
+pub fn fault_of(e: Entry) -> u32
+    ensures { λ r. ⌜ r ≡ fault-of e ⌝ }
+{
+    match e {
+        Entry::Whole {
+            kind: _,
+            a: _,
+            b: _,
+            c: _,
+            next: _,
+        } => 0,
+        Entry::Faulty(a) => a,
     }
 }
 

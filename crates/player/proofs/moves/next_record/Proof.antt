@@ -9,7 +9,7 @@ use Rattle.player.proofs.moves.next_record.Statement.{statement}
 use Rattle.player.proofs.moves.next_record.Tie as tie
 use Rattle.player.proofs.moves.next_record.Reads as reads
 use Rattle.player.proofs.moves.next_record.Lts as lts
-use Rattle.player.proofs.moves.fault_in.Reads as fault-in-reads
+use Rattle.player.proofs.moves.fault_in.Reads as fault-of-reads
 use Rattle.player.proofs.moves.refuse.Reads as refuse-reads
 use Rattle.player.proofs.moves.take_record.Reads as take-record-reads
 use Rattle.record.proofs.record_at.Reads as record-at-reads
@@ -23,14 +23,14 @@ enum-known-e c = search needs
 enum-told : tie.Need-enum-told
 enum-told c = search needs
 
-fault-in-requires : tie.Need-fault-in-requires
-fault-in-requires c κs = search needs
+fault-of-requires : tie.Need-fault-of-requires
+fault-of-requires c κs = search needs
 
 refuse-requires : tie.Need-refuse-requires
 refuse-requires c κs = search needs
 
 returns : tie.Need-returns
-returns c = let bs = now (c .before .before .before .before .before .before .args .input) in let d = drop (c .before .before .before .before .before .before .args .at) bs in rw (record-faulty (c .before .before .before .before .before .before .args .last) (c .before .before .before .before .before .before .args .place) (length bs) d (entry kinds d) refl (c .before .before .before .before .record-at .result) (c .before .before .before .before .record-at .ensures) (c .before .before .enum-told .given .0 .0) (c .before .before .enum-told .given .1), ← c .before .fault-in .ensures) (c .refuse .ensures (length bs) d (place-here bs (c .before .before .before .before .before .before .args .at) (c .before .before .before .before .before .before .pre)))
+returns c = let bs = now (c .before .before .before .before .before .before .args .input) in let d = drop (c .before .before .before .before .before .before .args .at) bs in rw (record-faulty (c .before .before .before .before .before .before .args .last) (c .before .before .before .before .before .before .args .place) (length bs) d (entry kinds d) refl (c .before .before .before .before .record-at .result) (c .before .before .before .before .record-at .ensures) (c .before .before .enum-told .given .0 .0) (c .before .before .enum-told .given .1), ← c .before .fault-of .ensures) (c .refuse .ensures (length bs) d (place-here bs (c .before .before .before .before .before .before .args .at) (c .before .before .before .before .before .before .pre)))
 
 take-record-requires : tie.Need-take-record-requires
 take-record-requires c κs = search needs
@@ -49,7 +49,7 @@ next-record-spec =
     record-at-requires
     enum-known-e
     enum-told
-    fault-in-requires
+    fault-of-requires
     refuse-requires
     returns
     take-record-requires
