@@ -6,4 +6,5 @@ pub mod Turning
 pub mod Still
 pub mod Opened
 pub mod Parts
+pub mod Staying
 pub mod Theorem

@@ -184,7 +184,7 @@ begun r rest =
     piece (r .answer ∷ []) (r .box) (at (cond (eqb (r .answer) 0) playing only-reading) 0 0 (eqb (r .answer) 0)) rest false
 
 unfoldable pub not-begun : Bool → ℕ → Place → List ℕ → Box → Piece
-not-begun last a p bs b = cond (may-come last a) (piece [] b p bs true) (piece (a ∷ []) b (ended p) bs false)
+not-begun last a p bs b = cond (may-come last a) (piece [] b p bs true) (piece (a ∷ []) b (at over (p .count) 0 false) bs false)
 
 unfoldable pub begin : Bool → Place → List ℕ → Box → Piece
 begin last p bs b = elim (entry editions bs) [ whole ns rest ↦ begun (open-first (getD ns 1 0) (getD ns 2 0) b) rest | fault a ↦ not-begun last a p bs b ]

@@ -1,7 +1,7 @@
 -- What a call that plays a piece promises, on columns that may be longer than the box: as much of them as the box has is played, and what is
 -- behind is as it was.
 use Prim.Native.Nat.{ℕ, _≤_}
-use mathlib.Core.Bool.{Bool, cond}
+use mathlib.Core.Bool.{Bool, not, cond, _&&_}
 use mathlib.Core.List.{List, _++_}
 use mathlib.Core.Path.{_≡_}
 use lib.Dec.{eqb}
@@ -9,12 +9,15 @@ use lib.ListN.{length, drop}
 use Rattle.rules.specs.Parts.{Box, with-memory, with-directory}
 use Rattle.rules.specs.Box.{reply}
 use Rattle.player.specs.declared.place.Place.{Place}
-use Rattle.player.specs.Pieces.{first-of, open-first, play-call}
+use Rattle.player.specs.Pieces.{Piece, at-start, first-of, open-first, play-call}
 use Rattle.player.specs.Outcome.{leaves, outcome}
 
 -- the box that is played: once opened, as many words and entries as it has; before, and where the opening was refused, all that is lent
 unfoldable pub part-of : Bool → Box → Box
 part-of opened b = cond opened (first-of (b .m) (b .h) b) b
+
+unfoldable pub played-at : Place → Box → Box
+played-at p b = part-of (not (eqb (p .stage) at-start) && p .opened) b
 
 -- a column whose first part became this
 abbrev pub behind : {A : Type 0} → List A → List A → List A
@@ -31,8 +34,12 @@ pub record Opens (m h : ℕ) (b b1 : Box) (answer : ℕ) : Type 0 where
   pub opens : reply (part-of (eqb answer 0) b1) answer ≡ open-first m h b
   pub kept : b1 ≡ put-back (part-of (eqb answer 0) b1) b
 
--- any call: o, b and p are the output, the lent box and the place before it, o1, b1 and p1 those after it
-pub record Plays (last : Bool) (bs o o1 : List ℕ) (b b1 : Box) (p p1 : Place) (used written : ℕ) (waits : Bool) : Type 0 where
+-- a call that comes to this piece: o and b are the output and the lent box before it, o1, b1 and p1 what it leaves
+pub record ComesTo (bs o o1 : List ℕ) (b b1 : Box) (p1 : Place) (used written : ℕ) (waits : Bool) (r : Piece) : Type 0 where
   pub used-in : used ≤ length bs
-  pub comes-to : leaves o1 written (part-of (p1 .opened) b1) p1 (drop used bs) waits ≡ outcome o 0 (play-call last (length o) p bs (part-of (p .opened) b))
-  pub kept : b1 ≡ put-back (part-of (p1 .opened) b1) b
+  pub comes-to : leaves o1 written (played-at p1 b1) p1 (drop used bs) waits ≡ outcome o 0 r
+  pub kept : b1 ≡ put-back (played-at p1 b1) b
+
+-- any call, from a place p
+abbrev pub Plays : Bool → Place → List ℕ → List ℕ → List ℕ → Box → Box → Place → ℕ → ℕ → Bool → Type 0
+Plays last p bs o o1 b b1 p1 used written waits = ComesTo bs o o1 b b1 p1 used written waits (play-call last (length o) p bs (played-at p b))

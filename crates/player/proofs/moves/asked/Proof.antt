@@ -4,9 +4,6 @@ use Rattle.record.specs.Requests.{request-of}
 use borrow.Author.Needs.{needs}
 use Rattle.player.proofs.moves.asked.Statement.{statement}
 use Rattle.player.proofs.moves.asked.Tie as tie
-use Rattle.player.proofs.moves.asked.Reads as reads
-use Rattle.player.proofs.moves.asked.Lts as lts
-use Rattle.record.proofs.request_of.Reads as request-of-reads
 
 request-of-requires : tie.Need-request-of-requires
 request-of-requires c κs = search needs

@@ -2,9 +2,6 @@
 use borrow.Author.Needs.{needs}
 use Rattle.player.proofs.moves.counted.Statement.{statement}
 use Rattle.player.proofs.moves.counted.Tie as tie
-use Rattle.player.proofs.moves.counted.Reads as reads
-use Rattle.player.proofs.moves.counted.Lts as lts
-use Rattle.player.proofs.moves.one_more.Reads as one-more-reads
 
 one-more-requires : tie.Need-one-more-requires
 one-more-requires c κs = search needs

@@ -5,10 +5,6 @@ use Rattle.player.specs.Pieces.{finish}
 use borrow.Author.Needs.{needs}
 use Rattle.player.proofs.moves.finish.Statement.{statement}
 use Rattle.player.proofs.moves.finish.Tie as tie
-use Rattle.player.proofs.moves.finish.Reads as reads
-use Rattle.player.proofs.moves.finish.Lts as lts
-use Rattle.player.proofs.moves.said.Reads as said-reads
-use Rattle.player.proofs.moves.wide.Reads as wide-reads
 
 wide-requires : tie.Need-wide-requires
 wide-requires c κs = search needs

@@ -6,9 +6,6 @@ use Rattle.player.proofs.Choices.{place-here}
 use borrow.Author.Needs.{needs}
 use Rattle.player.proofs.moves.go_on.Statement.{statement}
 use Rattle.player.proofs.moves.go_on.Tie as tie
-use Rattle.player.proofs.moves.go_on.Reads as reads
-use Rattle.player.proofs.moves.go_on.Lts as lts
-use Rattle.player.proofs.moves.next_record.Reads as next-record-reads
 
 next-record-requires : tie.Need-next-record-requires
 next-record-requires c κs = search needs

@@ -7,9 +7,6 @@ use Rattle.player.proofs.Choices.{place-here, something-behind, none-be
 use borrow.Author.Needs.{needs}
 use Rattle.player.proofs.moves.look_behind.Statement.{statement}
 use Rattle.player.proofs.moves.look_behind.Tie as tie
-use Rattle.player.proofs.moves.look_behind.Reads as reads
-use Rattle.player.proofs.moves.look_behind.Lts as lts
-use Rattle.player.proofs.moves.said.Reads as said-reads
 
 said-requires : tie.Need-said-requires
 said-requires c κs = search needs

@@ -5,10 +5,6 @@ use Rattle.player.specs.Pieces.{next}
 use borrow.Author.Needs.{needs}
 use Rattle.player.proofs.moves.next_move.Statement.{statement}
 use Rattle.player.proofs.moves.next_move.Tie as tie
-use Rattle.player.proofs.moves.next_move.Reads as reads
-use Rattle.player.proofs.moves.next_move.Lts as lts
-use Rattle.player.proofs.moves.go_on.Reads as go-on-reads
-use Rattle.player.proofs.moves.look_behind.Reads as look-behind-reads
 
 go-on-requires : tie.Need-go-on-requires
 go-on-requires c κs = search needs

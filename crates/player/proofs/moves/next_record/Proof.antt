@@ -7,12 +7,6 @@ use Rattle.player.proofs.Choices.{record-faulty, record-whole, next-who
 use borrow.Author.Needs.{needs}
 use Rattle.player.proofs.moves.next_record.Statement.{statement}
 use Rattle.player.proofs.moves.next_record.Tie as tie
-use Rattle.player.proofs.moves.next_record.Reads as reads
-use Rattle.player.proofs.moves.next_record.Lts as lts
-use Rattle.player.proofs.moves.fault_in.Reads as fault-of-reads
-use Rattle.player.proofs.moves.refuse.Reads as refuse-reads
-use Rattle.player.proofs.moves.take_record.Reads as take-record-reads
-use Rattle.record.proofs.record_at.Reads as record-at-reads
 
 record-at-requires : tie.Need-record-at-requires
 record-at-requires c κs = search needs

@@ -4,8 +4,6 @@ use Rattle.player.specs.Pieces.{one-more}
 use borrow.Author.Needs.{needs}
 use Rattle.player.proofs.moves.one_more.Statement.{statement}
 use Rattle.player.proofs.moves.one_more.Tie as tie
-use Rattle.player.proofs.moves.one_more.Reads as reads
-use Rattle.player.proofs.moves.one_more.Lts as lts
 
 add-result : tie.Need-add-result
 add-result c = search needs

@@ -5,10 +5,6 @@ use Rattle.player.specs.Pieces.{play-now}
 use borrow.Author.Needs.{needs}
 use Rattle.player.proofs.moves.play_now.Statement.{statement}
 use Rattle.player.proofs.moves.play_now.Tie as tie
-use Rattle.player.proofs.moves.play_now.Reads as reads
-use Rattle.player.proofs.moves.play_now.Lts as lts
-use Rattle.player.proofs.moves.asked.Reads as asked-reads
-use Rattle.player.proofs.moves.counted.Reads as counted-reads
 
 counted-requires : tie.Need-counted-requires
 counted-requires c κs = search needs

@@ -4,9 +4,6 @@ use Rattle.player.proofs.Choices.{refuse-last, refuse-other, refuse-wai
 use borrow.Author.Needs.{needs}
 use Rattle.player.proofs.moves.refuse.Statement.{statement}
 use Rattle.player.proofs.moves.refuse.Tie as tie
-use Rattle.player.proofs.moves.refuse.Reads as reads
-use Rattle.player.proofs.moves.refuse.Lts as lts
-use Rattle.player.proofs.moves.said.Reads as said-reads
 
 said-requires : tie.Need-said-requires
 said-requires c κs = search needs

@@ -5,11 +5,6 @@ use Rattle.player.specs.Pieces.{take-record}
 use borrow.Author.Needs.{needs}
 use Rattle.player.proofs.moves.take_record.Statement.{statement}
 use Rattle.player.proofs.moves.take_record.Tie as tie
-use Rattle.player.proofs.moves.take_record.Reads as reads
-use Rattle.player.proofs.moves.take_record.Lts as lts
-use Rattle.player.proofs.moves.counted.Reads as counted-reads
-use Rattle.player.proofs.moves.finish.Reads as finish-reads
-use Rattle.player.proofs.moves.play_now.Reads as play-now-reads
 
 finish-requires : tie.Need-finish-requires
 finish-requires c κs = search needs

@@ -4,10 +4,6 @@ use Rattle.player.proofs.Parts.{part-count, opens-parts}
 use borrow.Author.Needs.{needs}
 use Rattle.player.proofs.opening.open_first.Statement.{statement}
 use Rattle.player.proofs.opening.open_first.Tie as tie
-use Rattle.player.proofs.opening.open_first.Reads as reads
-use Rattle.player.proofs.opening.open_first.Lts as lts
-use Rattle.memory.proofs.open.Reads as open-reads
-use Rattle.player.proofs.opening.part.Reads as part-reads
 
 part-requires : tie.Need-part-requires
 part-requires c κs = search needs

@@ -6,10 +6,6 @@ use Rattle.player.proofs.Turning.{carried-say, carried-step, carried-as
 use borrow.Author.Needs.{needs}
 use Rattle.player.proofs.playing.carry_out.Statement.{statement}
 use Rattle.player.proofs.playing.carry_out.Tie as tie
-use Rattle.player.proofs.playing.carry_out.Reads as reads
-use Rattle.player.proofs.playing.carry_out.Lts as lts
-use Rattle.memory.proofs.request.Reads as request-reads
-use Rattle.steps.proofs.step.Reads as step-reads
 
 enum-known-deed : tie.Need-enum-known-deed
 enum-known-deed c = search needs

@@ -12,9 +12,6 @@ use Rattle.player.specs.Outcome.{outcome, rest-of, to-go}
 use Rattle.player.proofs.Turning.{begins, ends, counts, turn-less, turn-same}
 use Rattle.player.proofs.playing.play_on.Statement.{statement}
 use Rattle.player.proofs.playing.play_on.Tie as tie
-use Rattle.player.proofs.playing.play_on.Reads as reads
-use Rattle.player.proofs.playing.play_on.Lts as lts
-use Rattle.player.proofs.playing.take_turn.Reads as take-turn-reads
 
 abbrev Inv-loop : tie.InvT-loop
 Inv-loop last input numbers₀ switches₀ hold₀ words₀ flags₀ addresses₀ sizes₀ links₀ marks₀ deeps₀ out₀ stands₀ used₀ written₀ going₀ waits₀ numbers switches hold words flags addresses sizes links marks deeps out stands used written going waits = (length words ≡ length words₀) × (length flags ≡ length flags₀) × (length addresses ≡ length addresses₀) × (length sizes ≡ length sizes₀) × (length links ≡ length links₀) × (length marks ≡ length marks₀) × (length deeps ≡ length deeps₀) × (length out ≡ length out₀) × (used ≤ length input) × (written ≤ length out) × (outcome out written (rest-of going waits last (length out - written) stands (drop used input) (lent numbers switches hold words flags addresses sizes links marks deeps)) ≡ outcome out₀ 0 (play-piece last (length out₀) stands₀ input (lent numbers₀ switches₀ hold₀ words₀ flags₀ addresses₀ sizes₀ links₀ marks₀ deeps₀)))

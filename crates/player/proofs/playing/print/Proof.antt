@@ -4,9 +4,6 @@ use Rattle.player.proofs.Turning.{printed-say, printed-step, printed-as
 use borrow.Author.Needs.{needs}
 use Rattle.player.proofs.playing.print.Statement.{statement}
 use Rattle.player.proofs.playing.print.Tie as tie
-use Rattle.player.proofs.playing.print.Reads as reads
-use Rattle.player.proofs.playing.print.Lts as lts
-use Rattle.player.proofs.text.put_line.Reads as put-line-reads
 
 enum-told : tie.Need-enum-told
 enum-told c = search needs

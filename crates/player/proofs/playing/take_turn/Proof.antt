@@ -10,11 +10,6 @@ use Rattle.player.proofs.Turning.{answer-small, move-goes, move-waits, 
 use borrow.Author.Needs.{needs}
 use Rattle.player.proofs.playing.take_turn.Statement.{statement}
 use Rattle.player.proofs.playing.take_turn.Tie as tie
-use Rattle.player.proofs.playing.take_turn.Reads as reads
-use Rattle.player.proofs.playing.take_turn.Lts as lts
-use Rattle.player.proofs.moves.next_move.Reads as next-move-reads
-use Rattle.player.proofs.playing.carry_out.Reads as carry-out-reads
-use Rattle.player.proofs.playing.print.Reads as print-reads
 
 sub-if1 : tie.Need-sub-if1
 sub-if1 c = search needs

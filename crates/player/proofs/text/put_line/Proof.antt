@@ -6,9 +6,6 @@ use Rattle.player.proofs.Lines.{stored-one, stored-two}
 use borrow.Author.Needs.{needs}
 use Rattle.player.proofs.text.put_line.Statement.{statement}
 use Rattle.player.proofs.text.put_line.Tie as tie
-use Rattle.player.proofs.text.put_line.Reads as reads
-use Rattle.player.proofs.text.put_line.Lts as lts
-use Rattle.player.proofs.text.digit.Reads as digit-reads
 
 digit-requires : tie.Need-digit-requires
 digit-requires c κs = search needs

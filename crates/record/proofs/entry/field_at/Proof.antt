@@ -4,9 +4,6 @@ use Rattle.record.proofs.Entries.{field-small, field-large, field-none}
 use borrow.Author.Needs.{needs}
 use Rattle.record.proofs.entry.field_at.Statement.{statement}
 use Rattle.record.proofs.entry.field_at.Tie as tie
-use Rattle.record.proofs.entry.field_at.Reads as reads
-use Rattle.record.proofs.entry.field_at.Lts as lts
-use Rattle.record.proofs.number.number_at.Reads as number-at-reads
 
 number-at-requires : tie.Need-number-at-requires
 number-at-requires c κs = search needs

@@ -7,11 +7,6 @@ use Rattle.record.proofs.Entries.{entry-none, entry-known, entry-unknow
 use borrow.Author.Needs.{needs}
 use Rattle.record.proofs.entry.head_of.Statement.{statement}
 use Rattle.record.proofs.entry.head_of.Tie as tie
-use Rattle.record.proofs.entry.head_of.Reads as reads
-use Rattle.record.proofs.entry.head_of.Lts as lts
-use Rattle.record.proofs.entry.two.Reads as two-reads
-use Rattle.record.proofs.number.number_at.Reads as number-at-reads
-use Rattle.record.proofs.number.refusal.Reads as refusal-reads
 
 number-at-requires : tie.Need-number-at-requires
 number-at-requires c κs = search needs

@@ -6,10 +6,6 @@ use Rattle.record.proofs.Groups.{number-cut, number-alone, number-more-
 use borrow.Author.Needs.{needs}
 use Rattle.record.proofs.number.number_at.Statement.{statement}
 use Rattle.record.proofs.number.number_at.Tie as tie
-use Rattle.record.proofs.number.number_at.Reads as reads
-use Rattle.record.proofs.number.number_at.Lts as lts
-use Rattle.record.proofs.number.groups.Reads as groups-reads
-use Rattle.record.proofs.number.wide.Reads as wide-reads
 
 returns : tie.Need-returns
 returns c = number-cut (now (c .before .before .args .bytes)) (c .before .before .args .at) (c .if1 .taken)
