@@ -7,4 +7,5 @@ pub mod Still
 pub mod Opened
 pub mod Parts
 pub mod Staying
+pub mod Starting
 pub mod Theorem

@@ -78,8 +78,25 @@ unfolding put-back
 back-all x b s =
     rw (back-whole (x .memory .words) (b .memory .words) (s .words), back-whole (x .memory .flags) (b .memory .flags) (s .flags), back-whole (x .directory .addresses) (b .directory .addresses) (s .addresses), back-whole (x .directory .sizes) (b .directory .sizes) (s .sizes), back-whole (x .directory .links) (b .directory .links) (s .links), back-whole (x .directory .marks) (b .directory .marks) (s .marks), back-whole (x .directory .deeps) (b .directory .deeps) (s .deeps))
 
-same-shape : (b : Box) → SameShape b b
+pub same-shape : (b : Box) → SameShape b b
 same-shape b = record { words = refl; flags = refl; addresses = refl; sizes = refl; links = refl; marks = refl; deeps = refl }
+
+-- M and H are no columns
+pub first-m : (m h : ℕ) (b : Box) → first-of m h b .m ≡ b .m
+unfolding first-of
+first-m m h b = refl
+
+pub first-h : (m h : ℕ) (b : Box) → first-of m h b .h ≡ b .h
+unfolding first-of
+first-h m h b = refl
+
+pub back-m : (x b : Box) → put-back x b .m ≡ x .m
+unfolding put-back
+back-m x b = refl
+
+pub back-h : (x b : Box) → put-back x b .h ≡ x .h
+unfolding put-back
+back-h x b = refl
 
 -- ---- the opening of a part
 

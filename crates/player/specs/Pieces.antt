@@ -179,9 +179,12 @@ unfoldable pub open-first : ℕ → ℕ → Box → Reply
 open-first m h b =
     cond (eqb (opening m h (first-of m h b) .answer) 0) (opening m h (first-of m h b)) (reply b (opening m h (first-of m h b) .answer))
 
+-- where the playing stands after it
+abbrev pub begun-at : ℕ → Place
+begun-at a = at (cond (eqb a 0) playing only-reading) 0 0 (eqb a 0)
+
 unfoldable pub begun : Reply → List ℕ → Piece
-begun r rest =
-    piece (r .answer ∷ []) (r .box) (at (cond (eqb (r .answer) 0) playing only-reading) 0 0 (eqb (r .answer) 0)) rest false
+begun r rest = piece (r .answer ∷ []) (r .box) (begun-at (r .answer)) rest false
 
 unfoldable pub not-begun : Bool → ℕ → Place → List ℕ → Box → Piece
 not-begun last a p bs b = cond (may-come last a) (piece [] b p bs true) (piece (a ∷ []) b (at over (p .count) 0 false) bs false)

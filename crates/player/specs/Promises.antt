@@ -1,15 +1,15 @@
 -- What a call that plays a piece promises, on columns that may be longer than the box: as much of them as the box has is played, and what is
 -- behind is as it was.
 use Prim.Native.Nat.{ℕ, _≤_}
-use mathlib.Core.Bool.{Bool, not, cond, _&&_}
-use mathlib.Core.List.{List, _++_}
+use mathlib.Core.Bool.{Bool, false, not, cond, _&&_}
+use mathlib.Core.List.{List, [], _∷_, _++_}
 use mathlib.Core.Path.{_≡_}
 use lib.Dec.{eqb}
 use lib.ListN.{length, drop}
 use Rattle.rules.specs.Parts.{Box, with-memory, with-directory}
 use Rattle.rules.specs.Box.{reply}
 use Rattle.player.specs.declared.place.Place.{Place}
-use Rattle.player.specs.Pieces.{Piece, at-start, first-of, open-first, play-call}
+use Rattle.player.specs.Pieces.{Piece, piece, at-start, over, at, first-of, open-first, not-begun, play-call}
 use Rattle.player.specs.Outcome.{leaves, outcome}
 
 -- the box that is played: once opened, as many words and entries as it has; before, and where the opening was refused, all that is lent
@@ -33,6 +33,24 @@ put-back x b =
 pub record Opens (m h : ℕ) (b b1 : Box) (answer : ℕ) : Type 0 where
   pub opens : reply (part-of (eqb answer 0) b1) answer ≡ open-first m h b
   pub kept : b1 ≡ put-back (part-of (eqb answer 0) b1) b
+
+-- the refusal of a start is printed
+pub record Says (a : ℕ) (o o1 : List ℕ) (p p1 : Place) (used written : ℕ) (waits : Bool) : Type 0 where
+  pub none-used : used ≡ 0
+  pub comes-to : (bs : List ℕ) (b : Box) → leaves o1 written b p1 bs waits ≡ outcome o 0 (piece (a ∷ []) b (at over (p .count) 0 false) bs false)
+  pub place-is : p1 ≡ at over (p .count) 0 false
+
+-- the start was refused, and all that is lent but the output is as it was
+pub record Refuses (last : Bool) (a : ℕ) (o o1 : List ℕ) (p p1 : Place) (used written : ℕ) (waits : Bool) : Type 0 where
+  pub none-used : used ≡ 0
+  pub comes-to : (bs : List ℕ) (b : Box) → leaves o1 written b p1 bs waits ≡ outcome o 0 (not-begun last a p bs b)
+  pub all-lent : (b : Box) → played-at p1 b ≡ b
+
+-- a part of what is lent was played
+pub record PlaysPart (bs o o1 : List ℕ) (b b1 : Box) (p1 : Place) (used written : ℕ) (waits : Bool) (r : Piece) : Type 0 where
+  pub used-in : used ≤ length bs
+  pub comes-to : leaves o1 written (first-of (b1 .m) (b1 .h) b1) p1 (drop used bs) waits ≡ outcome o 0 r
+  pub kept : b1 ≡ put-back (first-of (b1 .m) (b1 .h) b1) b
 
 -- a call that comes to this piece: o and b are the output and the lent box before it, o1, b1 and p1 what it leaves
 pub record ComesTo (bs o o1 : List ℕ) (b b1 : Box) (p1 : Place) (used written : ℕ) (waits : Bool) (r : Piece) : Type 0 where

@@ -1,9 +1,11 @@
 // Playing a record on the memory unit, in pieces.
+mod calls;
 mod moves;
 mod opening;
 mod place;
 mod playing;
 mod text;
 
-pub use place::Deed;
+pub use calls::play;
 pub use place::Place;
+pub use playing::Went;
