@@ -1,0 +1,61 @@
+-- `to_front` meets its contract. The loop's invariant: the input is as long as it was. The measure is how many bytes are left to move. Assumes nothing.
+use Prim.Native.Nat.{_≤_, _-_}
+use mathlib.Core.Path.{_≡_, refl, _∙_}
+use native.Mathlib.Omega.{arith}
+use lib.ListN.{length, length-set}
+use borrow.Author.Needs.{needs}
+use Rattle.play.proofs.to_front.Statement.{statement}
+use Rattle.play.proofs.to_front.Tie as tie
+
+abbrev Inv-loop : tie.InvT-loop
+Inv-loop input₀ from till n i₀ input i = (length input ≡ length input₀) × (n ≡ till - from) × (i ≤ n)
+
+abbrev μ-loop : tie.MeasureT-loop
+μ-loop input₀ from till n i₀ input i = n - i
+
+sub-n : tie.Need-sub-n Inv-loop μ-loop
+sub-n c = search needs
+
+loop-holds : tie.Need-loop-holds Inv-loop μ-loop
+loop-holds c = (refl, refl, omega arith)
+
+add-input : tie.Need-add-input Inv-loop μ-loop
+add-input c = omega arith
+
+slice-read-input : tie.Need-slice-read-input Inv-loop μ-loop
+slice-read-input c = omega arith
+
+slice-write-input : tie.Need-slice-write-input Inv-loop μ-loop
+slice-write-input c = omega arith
+
+add-i : tie.Need-add-i Inv-loop μ-loop
+add-i c = omega arith
+
+loop-less : tie.Need-loop-less Inv-loop μ-loop
+loop-less c = omega arith
+
+loop-again : tie.Need-loop-again Inv-loop μ-loop
+loop-again c = (simp length-set (c .before .before .loop .inv .0), c .before .before .loop .inv .1, omega arith)
+
+same-length : tie.Need-same-length Inv-loop μ-loop
+same-length c = c .before .loop .inv .0
+
+returns : tie.Need-returns Inv-loop μ-loop
+returns c = search needs
+
+pub to-front-spec : {M : Type 1} → statement M
+to-front-spec =
+    tie.close
+    (tie.spec
+    Inv-loop
+    μ-loop
+    sub-n
+    loop-holds
+    add-input
+    slice-read-input
+    slice-write-input
+    add-i
+    loop-less
+    loop-again
+    same-length
+    returns)
