@@ -1,4 +1,5 @@
--- The theorem of playing in pieces: wherever a string is cut, and whatever calls play it, the lines are those of the whole string.
+-- The theorems of playing in pieces: wherever a string is cut, and whatever calls play it, the lines are those of the whole string, and
+-- the calls of the code print them as text.
 use Prim.Native.Nat.{ℕ, _≤_}
 use mathlib.Core.List.{List, []}
 use mathlib.Core.Path.{_≡_}
@@ -6,8 +7,9 @@ use lib.ListN.{length}
 use Rattle.rules.specs.Limits.{most-words, most-entries}
 use Rattle.rules.specs.Parts.{Box}
 use Rattle.player.specs.Lines.{lines}
+use Rattle.player.specs.Text.{text}
 use Rattle.player.specs.Pieces.{start}
-use Rattle.player.specs.Calls.{Plays}
+use Rattle.player.specs.Calls.{Runs, Printed}
 
 -- the columns that are lent are as long as the largest box
 pub record Ample (b : Box) : Type 0 where
@@ -21,4 +23,8 @@ pub record Ample (b : Box) : Type 0 where
 
 -- whatever the columns hold
 abbrev pub PiecesClaim : Type 0
-PiecesClaim = (b : Box) → Ample b → (bs out : List ℕ) → Plays start b [] bs out → out ≡ lines bs
+PiecesClaim = (b : Box) → Ample b → (bs out : List ℕ) → Runs start b [] bs out → out ≡ lines bs
+
+-- the same of the calls of the code: all that they write, in turn, is the text of those lines
+abbrev pub PrintedClaim : Type 0
+PrintedClaim = (b : Box) → Ample b → (bs out : List ℕ) → Printed start b [] bs out → out ≡ text (lines bs)
