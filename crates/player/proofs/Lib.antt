@@ -11,3 +11,4 @@ pub mod Starting
 pub mod Theorem
 pub mod Fitting
 pub mod Whole
+pub mod Progress
