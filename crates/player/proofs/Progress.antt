@@ -1,23 +1,27 @@
 -- A call with room for a line gets on. A move that prints nothing takes a byte, as each takes a byte or room, and what is done behind a move
--- gives no byte back: by turns. At the start, all but waiting prints a line. Assumes nothing.
+-- gives no byte back: by turns. At the start, all but waiting prints a line. A call of the code comes to such a piece.
+-- Assumes nothing.
 use Prim.Native.Nat.{ℕ, zero, suc, _+_, _<_, _≤_}
 use mathlib.Core.Bool.{Bool, true, false}
-use mathlib.Core.List.{List}
-use mathlib.Core.Logic.{inl, inr}
-use mathlib.Core.Path.{_≡_, refl, subst}
+use mathlib.Core.List.{List, [], _∷_}
+use mathlib.Core.Logic.{_⊎_, inl, inr}
+use mathlib.Core.Path.{_≡_, refl, _∙_, ap, subst}
 use native.Mathlib.Omega.{arith}
 use borrow.Author.Tests.{ltb-true, ltb-false, le-ltb}
 use lib.Dec.{ltb, eqb}
-use lib.ListN.{length}
+use lib.ListN.{length, drop, length-append, length-drop}
 use Rattle.rules.specs.Parts.{Box}
 use Rattle.record.specs.Fields.{Item, whole, fault, editions, entry}
 use Rattle.record.proofs.Refusals.{either-way}
 use Rattle.player.specs.declared.place.Place.{Place}
 use Rattle.player.specs.declared.place.Deed.{Deed}
 use Rattle.player.specs.declared.place.Deed.the-variants.{Say, Step, Ask, Silent}
+use Rattle.player.specs.Text.{text}
 use Rattle.player.specs.Pieces.{at-start, Move, go, wait, may-come, next, carry-out, printed, Piece, lines-before, room-behind, play-in, play-piece, begun, not-begun, begin, begin-piece, play-call}
-use Rattle.player.specs.Claims.{Advances, GetsOn}
-use Rattle.player.proofs.Turns.{goes-less, in-full, in-waits, in-goes, piece-waits, piece-goes}
+use Rattle.player.specs.Outcome.{Outcome, leaves, outcome}
+use Rattle.player.specs.Promises.{played-at}
+use Rattle.player.specs.Claims.{Advances, GetsOn, CallGetsOn}
+use Rattle.player.proofs.Turns.{line-length, goes-less, in-full, in-waits, in-goes, piece-waits, piece-goes}
 use Rattle.player.proofs.Turning.{Fair, next-fair}
 
 -- ---- moves
@@ -68,3 +72,18 @@ module _ (last : Bool) (room : ℕ) (p : Place) (bs : List ℕ) (b : Box) (h : 3
 pub gets-on : GetsOn
 unfolding play-call
 gets-on last room p bs b h = either-way (Advances bs) (eqb (p .stage) at-start) _ _ (begin-on last room p bs b h) (piece-on last room p bs b h)
+
+-- ---- a call of the code
+
+text-some : (xs : List ℕ) → 0 < length xs → 0 < length (text xs)
+unfolding text
+text-some [] h = h
+text-some (x ∷ xs) h = rw length-append (omega (arith, line-length x))
+
+pub call-gets-on : CallGetsOn
+call-gets-on last p p1 bs o o1 b b1 used n w h c = of (play-call last (length o) p bs (played-at p b)) (c .comes-to) (gets-on last (length o) p bs (played-at p b) h)
+  where
+    of : (r : Piece) → leaves o1 n (played-at p1 b1) p1 (drop used bs) w ≡ outcome o 0 r → Advances bs r → (w ≡ true) ⊎ ((0 < n) ⊎ (0 < used))
+    of r e (inl k) = inl (ap (λ (x : Outcome). x .waits) e ∙ k)
+    of r e (inr (inl k)) = inr (inl (omega (arith, ap (λ (x : Outcome). x .written) e, text-some (r .lines) k)))
+    of r e (inr (inr k)) = inr (inr (omega (arith, ap (λ (x : Outcome). length (x .bytes)) e, length-drop used bs)))

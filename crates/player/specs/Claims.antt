@@ -12,6 +12,7 @@ use Rattle.player.specs.declared.place.Place.{Place}
 use Rattle.player.specs.Lines.{lines}
 use Rattle.player.specs.Text.{text}
 use Rattle.player.specs.Pieces.{start, line-room, Piece, play-call}
+use Rattle.player.specs.Promises.{Plays}
 use Rattle.player.specs.Calls.{Runs, Printed}
 
 -- the columns that are lent are as long as the largest box
@@ -39,3 +40,7 @@ Advances bs r = (r .waits ≡ true) ⊎ ((0 < length (r .lines)) ⊎ (length (r 
 -- so does every call with room for a line, from any place: none leaves all as it was and asks for another
 abbrev pub GetsOn : Type 0
 GetsOn = (last : Bool) (room : ℕ) (p : Place) (bs : List ℕ) (b : Box) → line-room ≤ room → Advances bs (play-call last room p bs b)
+
+-- and so every call of the code whose output has room for a line: it waits, or writes, or uses a byte
+abbrev pub CallGetsOn : Type 0
+CallGetsOn = (last : Bool) (p p1 : Place) (bs o o1 : List ℕ) (b b1 : Box) (used n : ℕ) (w : Bool) → line-room ≤ length o → Plays last p bs o o1 b b1 p1 used n w → (w ≡ true) ⊎ ((0 < n) ⊎ (0 < used))
