@@ -9,3 +9,6 @@ pub mod Parts
 pub mod Staying
 pub mod Starting
 pub mod Theorem
+pub mod Fitting
+pub mod Whole
+pub mod Progress

@@ -21,7 +21,7 @@ use Rattle.player.specs.declared.place.Deed.{Deed}
 use Rattle.player.specs.Lines.{play-steps, play-opened, play-items, lines-of, lines}
 use Rattle.player.specs.Pieces.{at-start, playing, only-reading, at, Move, go, wait, may-come, next, carry-out, printed, Piece, piece, lines-before, room-behind, play-in, play-piece, open-first, begun, not-begun, begin, begin-piece, play-call}
 use Rattle.player.specs.Calls as calls
-use Rattle.player.specs.Calls.{Plays}
+use Rattle.player.specs.Calls.{Runs}
 use Rattle.player.specs.Claims.{Ample, PiecesClaim}
 use Rattle.record.proofs.Refusals.{entry-fault-some}
 use Rattle.player.proofs.Turns.{in-full, in-waits, in-goes}
@@ -158,7 +158,7 @@ call-then last room p b bs more out r f a e k =
     let g : Went last p b bs more r = subst (Went last p b bs more) (sym e) (call-went last room p b bs more f a) in
     ap (_++_ (r .lines)) (k (g .ample)) ∙ sym (g .prints)
 
-plays : {p : Place} {b : Box} {bs more out : List ℕ} → (p .stage ≡ at-start → Ample b) → Plays p b bs more out → out ≡ rest-lines p b (bs ++ more)
+plays : {p : Place} {b : Box} {bs more out : List ℕ} → (p .stage ≡ at-start → Ample b) → Runs p b bs more out → out ≡ rest-lines p b (bs ++ more)
 plays a (calls.call {p} {b} {bs} {more} {out} room r e k) = call-then false room p b bs more out r (some-may-come more) a e (λ c. plays c k)
 plays a (calls.read {p} {b} {bs} {more} cs k) = plays a k ∙ ap (rest-lines p b) (append-assoc bs cs more)
 plays a (calls.last-call {p} {b} {bs} {out} room r e k) = call-then true room p b bs [] out r none-to-come a e (λ c. plays c k)

@@ -80,13 +80,13 @@ printed-silent o k a d e = rw e (refl, omega arith)
 
 -- ---- what a move leaves of the bytes, and what it may say
 
-abbrev Small : Deed → Type 0
+abbrev pub Small : Deed → Type 0
 Small (Say a) = a < 100
 Small Step = Unit {0}
 Small (Ask q) = Unit {0}
 Small Silent = Unit {0}
 
-abbrev Fair : List ℕ → Move → Type 0
+abbrev pub Fair : List ℕ → Move → Type 0
 Fair bs (go d q rest) = AtEnd bs rest × Small d
 Fair bs wait = Unit {0}
 
@@ -107,7 +107,7 @@ record-fair last p bs = of (entry kinds bs) refl
     of (whole ns rest) e = rw (e, next-record, Fair) (take-fair bs p ns rest (at-end bs rest (entry-behind kinds bs ns rest e)))
     of (fault a) e = rw (e, next-record, Fair) (either (Fair bs) (may-come last a) _ _ (λ m. tt) (λ m. (at-end-all bs, omega (arith, entry-fault-named kinds bs a e))))
 
-next-fair : (last : Bool) (p : Place) (bs : List ℕ) → Fair bs (next last p bs)
+pub next-fair : (last : Bool) (p : Place) (bs : List ℕ) → Fair bs (next last p bs)
 unfolding next go-on look-behind
 next-fair last p bs = either (Fair bs) (ltb (p .stage) end-stage) _ _ (λ e. either (Fair bs) (eqb (p .left) 0) _ _ (λ l. record-fair last p bs) (λ l. (at-end-all bs, tt))) (λ e. either (Fair bs) (eqb (p .stage) end-stage) _ _ (λ a. either (Fair bs) (nothing-behind bs) _ _ (λ n. tt) (λ n. (at-end-all bs, omega arith))) (λ a. tt))
 
@@ -156,12 +156,12 @@ pub turn-waits : (last : Bool) (bs o : List ℕ) (b : Box) (p : Place) (k n : �
 unfolding rest-of
 turn-waits last bs o b p k n h i j e = record { comes-to = rw (piece-waits last (length o - n) p (drop k bs) b j e); bytes-in = h; room-in = i; never-more = omega arith; falls = λ e. absurd (let w : _≡_ {A = ℕ} 0 1 = cc in omega arith) }
 
-text-append : (xs ys : List ℕ) → text (xs ++ ys) ≡ text xs ++ text ys
+pub text-append : (xs ys : List ℕ) → text (xs ++ ys) ≡ text xs ++ text ys
 unfolding text
 text-append [] ys = refl
 text-append (x ∷ xs) ys = rw (text-append xs ys, append-assoc)
 
-room-behind-text : (xs : List ℕ) (room : ℕ) → room-behind xs room ≡ room - length (text xs)
+pub room-behind-text : (xs : List ℕ) (room : ℕ) → room-behind xs room ≡ room - length (text xs)
 unfolding room-behind text
 room-behind-text [] room = omega arith
 room-behind-text (x ∷ xs) room = room-behind-text xs (room - length (line x)) ∙ omega (arith, length-append (line x) (text xs))
@@ -177,14 +177,14 @@ outcome-then : (o o1 : List ℕ) (n n1 : ℕ) (xs : List ℕ) (r x : Piece) → 
 outcome-then o o1 n n1 xs r x e f g = rw (e, f, g) (outcome-more o n xs r)
 
 -- a line of an answer below 100 has at most three characters
-line-short : (a : ℕ) → a < 100 → length (line a) ≤ 3
+pub line-short : (a : ℕ) → a < 100 → length (line a) ≤ 3
 line-short a h = by (ltb a 10) refl
   where
     by : (t : Bool) → ltb a 10 ≡ t → length (line a) ≤ 3
     by true e = rw (line-one a (ltb-true a 10 e)) (omega arith)
     by false e = rw (line-two a (ltb-false a 10 e) h) (omega arith)
 
-printed-short : (d : Deed) (a : ℕ) → a < 100 → length (text (printed d a)) ≤ 3
+pub printed-short : (d : Deed) (a : ℕ) → a < 100 → length (text (printed d a)) ≤ 3
 unfolding printed text
 printed-short (Say m) a h = rw append-nil (line-short a h)
 printed-short Step a h = rw append-nil (line-short a h)

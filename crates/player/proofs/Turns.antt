@@ -35,7 +35,7 @@ abbrev Spends : ℕ → Move → Type 0
 Spends n (go d q rest) = Leaves n d rest
 Spends n wait = Unit {0}
 
-line-length : (a : ℕ) → 1 ≤ length (line a)
+pub line-length : (a : ℕ) → 1 ≤ length (line a)
 unfolding line
 line-length a = simp length-append (omega arith)
 

@@ -1,20 +1,37 @@
--- A string played in pieces, cut anywhere, by any number of calls.
+-- A string played in pieces, cut anywhere, by any number of calls: on boxes, as the definitions say, and on the lent parts, as the code
+-- promises.
 use Prim.Native.Nat.{ℕ}
-use mathlib.Core.Bool.{true, false}
+use mathlib.Core.Bool.{Bool, true, false}
 use mathlib.Core.List.{List, [], _++_}
 use mathlib.Core.Path.{_≡_}
+use lib.ListN.{take, drop}
 use Rattle.rules.specs.Parts.{Box}
 use Rattle.player.specs.declared.place.Place.{Place}
 use Rattle.player.specs.Pieces.{Piece, play-call}
+use Rattle.player.specs.Promises.{Plays}
 
--- `Plays p b unused to-come out`: from this place and box, with bytes at hand that are not used yet and bytes still to come, some calls
+-- `Runs p b unused to-come out`: from this place and box, with bytes at hand that are not used yet and bytes still to come, some calls
 -- print the lines `out` and come to the end of all bytes with nothing left to do
-pub data Plays : Place → Box → List ℕ → List ℕ → List ℕ → Type 0 where
+pub data Runs : Place → Box → List ℕ → List ℕ → List ℕ → Type 0 where
   -- a call, with any room for output, while more may come
-  call : {p : Place} {b : Box} {bs more out : List ℕ} (room : ℕ) (r : Piece) → r ≡ play-call false room p bs b → Plays (r .place) (r .box) (r .bytes) more out → Plays p b bs more (r .lines ++ out)
+  call : {p : Place} {b : Box} {bs more out : List ℕ} (room : ℕ) (r : Piece) → r ≡ play-call false room p bs b → Runs (r .place) (r .box) (r .bytes) more out → Runs p b bs more (r .lines ++ out)
   -- some of the bytes to come are at hand
-  read : {p : Place} {b : Box} {bs more out : List ℕ} (cs : List ℕ) → Plays p b (bs ++ cs) more out → Plays p b bs (cs ++ more) out
+  read : {p : Place} {b : Box} {bs more out : List ℕ} (cs : List ℕ) → Runs p b (bs ++ cs) more out → Runs p b bs (cs ++ more) out
   -- a call with the last bytes, after which some are left to do
-  last-call : {p : Place} {b : Box} {bs out : List ℕ} (room : ℕ) (r : Piece) → r ≡ play-call true room p bs b → Plays (r .place) (r .box) (r .bytes) [] out → Plays p b bs [] (r .lines ++ out)
+  last-call : {p : Place} {b : Box} {bs out : List ℕ} (room : ℕ) (r : Piece) → r ≡ play-call true room p bs b → Runs (r .place) (r .box) (r .bytes) [] out → Runs p b bs [] (r .lines ++ out)
   -- a call with the last bytes that leaves nothing to do
-  done : {p : Place} {b : Box} {bs : List ℕ} (room : ℕ) (r : Piece) → r ≡ play-call true room p bs b → r .waits ≡ true → Plays p b bs [] (r .lines)
+  done : {p : Place} {b : Box} {bs : List ℕ} (room : ℕ) (r : Piece) → r ≡ play-call true room p bs b → r .waits ≡ true → Runs p b bs [] (r .lines)
+
+-- `Printed p b unused to-come out`: from this place and these lent parts, whole columns and all, with bytes at hand that are not used yet
+-- and bytes still to come, some calls of `play` print the text `out` and come to the end of all bytes with nothing left to do. Of a call
+-- only its promise is known: each has an output o of its own, of any length, and leaves o1 of it with n bytes written, the lent parts b1,
+-- the place p1, and so many bytes used
+pub data Printed : Place → Box → List ℕ → List ℕ → List ℕ → Type 0 where
+  -- a call while more may come, and what is printed behind it
+  plays : {p : Place} {b : Box} {bs more out : List ℕ} (o o1 : List ℕ) (b1 : Box) (p1 : Place) (used n : ℕ) (w : Bool) → Plays false p bs o o1 b b1 p1 used n w → Printed p1 b1 (drop used bs) more out → Printed p b bs more (take n o1 ++ out)
+  -- some of the bytes to come are at hand
+  reads : {p : Place} {b : Box} {bs more out : List ℕ} (cs : List ℕ) → Printed p b (bs ++ cs) more out → Printed p b bs (cs ++ more) out
+  -- a call with the last bytes, and what is printed behind it
+  plays-last : {p : Place} {b : Box} {bs out : List ℕ} (o o1 : List ℕ) (b1 : Box) (p1 : Place) (used n : ℕ) (w : Bool) → Plays true p bs o o1 b b1 p1 used n w → Printed p1 b1 (drop used bs) [] out → Printed p b bs [] (take n o1 ++ out)
+  -- a call with the last bytes that says that nothing is left to do
+  ends : {p : Place} {b : Box} {bs : List ℕ} (o o1 : List ℕ) (b1 : Box) (p1 : Place) (used n : ℕ) (w : Bool) → Plays true p bs o o1 b b1 p1 used n w → w ≡ true → Printed p b bs [] (take n o1)
