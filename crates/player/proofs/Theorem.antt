@@ -1,5 +1,5 @@
 -- Playing in pieces prints the lines of the whole string. From each place, the lines still to be printed, read off all bytes, are what a
--- call prints and then what is still to be printed behind it: for moves by proofs/Moves, for the opening by proofs/Opening. So it is
+-- call prints and then what is still to be printed behind it: for moves by proofs/Still, for the opening by proofs/Opened. So it is
 -- through any calls. Assumes nothing.
 use Prim.Native.Nat.{ℕ, zero, suc, _+_, _<_}
 use mathlib.Core.Bool.{Bool, true, false, cond, true≢false, false≢true}
