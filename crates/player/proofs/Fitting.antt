@@ -15,11 +15,11 @@ use Rattle.rules.specs.Open.{opening}
 use Rattle.rules.proofs.Demand1.{demand1}
 use Rattle.record.specs.Fields.{Item, whole, fault, editions, entry}
 use Rattle.record.proofs.Refusals.{either-way}
-use Rattle.player.specs.declared.place.Place.{Place}
-use Rattle.player.specs.Text.{text}
-use Rattle.player.specs.Pieces.{at-start, Move, go, wait, may-come, next, carry-out, printed, Piece, room-behind, play-in, play-piece, first-of, open-first, begun, not-begun, begin, begin-piece, play-call}
-use Rattle.player.proofs.Turns.{in-full, in-waits, in-goes}
-use Rattle.player.proofs.Turning.{Fair, next-fair, answer-small, text-append, room-behind-text, line-short, printed-short}
+use Rattle.pieces.specs.declared.place.Place.{Place}
+use Rattle.pieces.specs.Text.{text}
+use Rattle.pieces.specs.Pieces.{at-start, Move, go, wait, may-come, next, carry-out, printed, Piece, room-behind, play-in, play-piece, first-of, open-first, begun, not-begun, begin, begin-piece, play-call}
+use Rattle.pieces.proofs.Turns.{in-full, in-waits, in-goes}
+use Rattle.turns.proofs.Turning.{Fair, next-fair, answer-small, text-append, room-behind-text, line-short, printed-short}
 use Rattle.player.proofs.Starting.{fault-small}
 
 abbrev Fits : ℕ → Piece → Type 0

@@ -1,14 +1,6 @@
-pub mod Lines
-pub mod Choices
-pub mod Entries
-pub mod Turns
-pub mod Turning
-pub mod Still
-pub mod Opened
 pub mod Parts
 pub mod Staying
 pub mod Starting
-pub mod Theorem
 pub mod Fitting
 pub mod Whole
 pub mod Progress

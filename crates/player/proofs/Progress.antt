@@ -13,16 +13,17 @@ use lib.ListN.{length, drop, length-append, length-drop}
 use Rattle.rules.specs.Parts.{Box}
 use Rattle.record.specs.Fields.{Item, whole, fault, editions, entry}
 use Rattle.record.proofs.Refusals.{either-way}
-use Rattle.player.specs.declared.place.Place.{Place}
-use Rattle.player.specs.declared.place.Deed.{Deed}
-use Rattle.player.specs.declared.place.Deed.the-variants.{Say, Step, Ask, Silent}
-use Rattle.player.specs.Text.{text}
-use Rattle.player.specs.Pieces.{at-start, Move, go, wait, may-come, next, carry-out, printed, Piece, lines-before, room-behind, play-in, play-piece, begun, not-begun, begin, begin-piece, play-call}
-use Rattle.player.specs.Outcome.{Outcome, leaves, outcome}
+use Rattle.pieces.specs.declared.place.Place.{Place}
+use Rattle.pieces.specs.declared.place.Deed.{Deed}
+use Rattle.pieces.specs.declared.place.Deed.the-variants.{Say, Step, Ask, Silent}
+use Rattle.pieces.specs.Text.{text}
+use Rattle.pieces.specs.Pieces.{at-start, Move, go, wait, may-come, next, carry-out, printed, Piece, lines-before, room-behind, play-in, play-piece, begun, not-begun, begin, begin-piece, play-call}
+use Rattle.turns.specs.Outcome.{Outcome, leaves, outcome}
 use Rattle.player.specs.Promises.{played-at}
-use Rattle.player.specs.Claims.{Advances, GetsOn, CallGetsOn}
-use Rattle.player.proofs.Turns.{line-length, goes-less, in-full, in-waits, in-goes, piece-waits, piece-goes}
-use Rattle.player.proofs.Turning.{Fair, next-fair}
+use Rattle.pieces.specs.Claims.{Advances, GetsOn}
+use Rattle.player.specs.Claims.{CallGetsOn}
+use Rattle.pieces.proofs.Turns.{line-length, goes-less, in-full, in-waits, in-goes, piece-waits, piece-goes}
+use Rattle.turns.proofs.Turning.{Fair, next-fair}
 
 -- ---- moves
 

@@ -20,10 +20,10 @@ use Rattle.record.specs.Fields.{Item, whole, fault, editions, entry}
 use Rattle.record.specs.Found.{place-of, as-entry, fault-of}
 use Rattle.record.proofs.Laws.{AtEnd, at-end, entry-behind}
 use Rattle.record.proofs.Refusals.{entry-fault-named}
-use Rattle.player.specs.declared.place.Place.{Place}
-use Rattle.player.specs.Text.{line, text}
-use Rattle.player.specs.Pieces.{at, over, begun-at, may-come, Piece, piece, first-of, open-first, begun, not-begun, begin, begin-piece, play-piece, play-call}
-use Rattle.player.specs.Outcome.{Outcome, leaves, outcome}
+use Rattle.pieces.specs.declared.place.Place.{Place}
+use Rattle.pieces.specs.Text.{line, text}
+use Rattle.pieces.specs.Pieces.{at, over, begun-at, may-come, Piece, piece, first-of, open-first, begun, not-begun, begin, begin-piece, play-piece, play-call}
+use Rattle.turns.specs.Outcome.{Outcome, leaves, outcome}
 use Rattle.player.specs.Promises.{part-of, played-at, put-back, Opens, Says, Refuses, PlaysPart, ComesTo, Plays}
 use Rattle.player.proofs.Parts.{SameShape, same-shape, first-back, lent-first, parts-shape, parts-back, back-all, first-m, first-h, back-m, back-h}
 use Rattle.player.proofs.Staying.{piece-keeps}

@@ -20,11 +20,11 @@ use Rattle.rules.specs.Request.{advance, getm, load, store, store-word, size, t
 use Rattle.rules.specs.Collector.{step}
 use Rattle.rules.proofs.Kept.{Outline, outline, Keeps, same as keeps-same, tuple-keeps, store-keeps}
 use Rattle.steps.proofs.Ruling.{stepped-outline}
-use Rattle.player.specs.declared.place.Deed.{Deed}
-use Rattle.player.specs.declared.place.Deed.the-variants.{Say, Step, Ask, Silent}
-use Rattle.player.specs.declared.place.Place.{Place}
-use Rattle.player.specs.Pieces.{playing, at-end, Move, go, wait, may-come, refuse, finish, play-now, take-record, next-record, go-on, look-behind, next, carry-out, printed, Piece, room-behind, play-in, play-piece}
-use Rattle.player.proofs.Turns.{either, in-full, in-waits, in-goes}
+use Rattle.pieces.specs.declared.place.Deed.{Deed}
+use Rattle.pieces.specs.declared.place.Deed.the-variants.{Say, Step, Ask, Silent}
+use Rattle.pieces.specs.declared.place.Place.{Place}
+use Rattle.pieces.specs.Pieces.{playing, at-end, Move, go, wait, may-come, refuse, finish, play-now, take-record, next-record, go-on, look-behind, next, carry-out, printed, Piece, room-behind, play-in, play-piece}
+use Rattle.pieces.proofs.Turns.{either, in-full, in-waits, in-goes}
 
 -- M and H of b are those of x
 abbrev Sized : Box → Box → Type 0

@@ -9,17 +9,18 @@ use native.Mathlib.Omega.{arith}
 use lib.ListN.{length, take, drop}
 use lib.Seq.{sets, sets-eq, take-at}
 use Rattle.rules.specs.Parts.{Box}
-use Rattle.player.specs.declared.place.Place.{Place}
-use Rattle.player.specs.Text.{text}
-use Rattle.player.specs.Pieces.{start, Piece, play-call}
-use Rattle.player.specs.Outcome.{Outcome, leaves, outcome}
+use Rattle.pieces.specs.declared.place.Place.{Place}
+use Rattle.pieces.specs.Text.{text}
+use Rattle.pieces.specs.Pieces.{start, Piece, play-call}
+use Rattle.turns.specs.Outcome.{Outcome, leaves, outcome}
 use Rattle.player.specs.Promises.{played-at, Plays}
-use Rattle.player.specs.Calls.{Runs, call, read, last-call, done, Printed, plays, reads, plays-last, ends}
+use Rattle.pieces.specs.Calls.{Runs, call, read, last-call, done}
+use Rattle.player.specs.Printed.{Printed, plays, reads, plays-last, ends}
 use Rattle.player.specs.Claims.{PrintedClaim}
-use Rattle.player.proofs.Turning.{text-append}
+use Rattle.turns.proofs.Turning.{text-append}
 use Rattle.player.proofs.Starting.{at-the-start}
 use Rattle.player.proofs.Fitting.{call-fits}
-use Rattle.player.proofs.Theorem.{pieces}
+use Rattle.pieces.proofs.Theorem.{pieces}
 
 -- what is written at the front of an output
 take-sets : (o xs : List ℕ) → length xs ≤ length o → take (0 + length xs) (sets o 0 xs) ≡ xs

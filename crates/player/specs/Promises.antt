@@ -8,9 +8,9 @@ use lib.Dec.{eqb}
 use lib.ListN.{length, drop}
 use Rattle.rules.specs.Parts.{Box, with-memory, with-directory}
 use Rattle.rules.specs.Box.{reply}
-use Rattle.player.specs.declared.place.Place.{Place}
-use Rattle.player.specs.Pieces.{Piece, piece, at-start, over, at, first-of, open-first, not-begun, play-call}
-use Rattle.player.specs.Outcome.{leaves, outcome}
+use Rattle.pieces.specs.declared.place.Place.{Place}
+use Rattle.pieces.specs.Pieces.{Piece, piece, at-start, over, at, first-of, open-first, not-begun, play-call}
+use Rattle.turns.specs.Outcome.{leaves, outcome}
 
 -- the box that is played: once opened, as many words and entries as it has; before, and where the opening was refused, all that is lent
 unfoldable pub part-of : Bool → Box → Box

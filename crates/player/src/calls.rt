@@ -1,18 +1,18 @@
 // Playing a record in pieces: the public call.
 use crate::opening::open_first;
 use crate::opening::part;
-use crate::place::Place;
-use crate::playing::Went;
-use crate::playing::play_on;
-use crate::text::put_line;
+use pieces::Place;
+use pieces::put_line;
 use record::Entry;
 use record::fault_of;
 use record::head_of;
+use turns::Went;
+use turns::play_on;
 ghost use mathlib.Core.Path.{_≡_};
 ghost use Prim.Native.Nat.{_<_, _≤_};
 ghost use lib.ListN.{length};
 ghost use Rattle.lent.specs.Lent.{lent};
-ghost use Rattle.player.specs.Pieces.{begun-at, begin-piece, play-piece, first-of};
+ghost use Rattle.pieces.specs.Pieces.{begun-at, begin-piece, play-piece, first-of};
 ghost use Rattle.player.specs.Promises.{Refuses, Says, PlaysPart, ComesTo, Plays};
 
 // Where the playing stands after the opening.

@@ -1,11 +1,7 @@
-// Playing a record on the memory unit, in pieces.
+// Playing a record on the memory unit, in pieces: the public call.
 mod calls;
-mod moves;
 mod opening;
-mod place;
-mod playing;
-mod text;
 
 pub use calls::play;
-pub use place::Place;
-pub use playing::Went;
+pub use pieces::Place;
+pub use turns::Went;
