@@ -189,7 +189,7 @@ impl<T: Cell> Column<T> {
     }
 
     /// The cells as the library takes a column.
-    fn slice(&mut self) -> (*mut T, usize) {
+    pub fn slice(&mut self) -> (*mut T, usize) {
         (self.pointer(), self.len())
     }
 
@@ -204,7 +204,8 @@ impl<T: Cell> Column<T> {
         start == [T::GUARD; GUARDS] && end == [T::GUARD; GUARDS]
     }
 
-    fn same(&self, cells: &[T]) -> bool {
+    /// True if these are the cells, and the guard cells are as they were.
+    pub fn same(&self, cells: &[T]) -> bool {
         self.guarded() && self.cells() == cells
     }
 }
