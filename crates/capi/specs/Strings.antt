@@ -35,3 +35,7 @@ CReads bs old new r = Gives (all-numbers (c-read bs old .items)) old new (c-read
 
 abbrev pub CWrites : List ℕ → List ℕ → List ℕ → ℕ → Type 0
 CWrites ns old new r = Gives (c-write ns old .bytes) old new (c-write ns old .answer) r
+
+-- a call that gives back 4,294,967,295 has changed nothing
+abbrev pub Unchanged : (List ℕ → List ℕ → List ℕ → ℕ → Type 0) → Type 0
+Unchanged Promises = (xs old new : List ℕ) → Promises xs old new not-understood → new ≡ old
