@@ -1,4 +1,3 @@
-pub mod Parts
 pub mod Staying
 pub mod Starting
 pub mod Fitting

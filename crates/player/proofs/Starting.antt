@@ -24,8 +24,9 @@ use Rattle.pieces.specs.declared.place.Place.{Place}
 use Rattle.pieces.specs.Text.{line, text}
 use Rattle.pieces.specs.Pieces.{at, over, begun-at, may-come, Piece, piece, first-of, open-first, begun, not-begun, begin, begin-piece, play-piece, play-call}
 use Rattle.turns.specs.Outcome.{Outcome, leaves, outcome}
-use Rattle.player.specs.Promises.{part-of, played-at, put-back, Opens, Says, Refuses, PlaysPart, ComesTo, Plays}
-use Rattle.player.proofs.Parts.{SameShape, same-shape, first-back, lent-first, parts-shape, parts-back, back-all, first-m, first-h, back-m, back-h}
+use Rattle.turns.specs.Parts.{part-of, put-back, Opens}
+use Rattle.player.specs.Promises.{played-at, Says, Refuses, PlaysPart, ComesTo, Plays}
+use Rattle.turns.proofs.Parts.{SameShape, same-shape, first-back, lent-first, parts-shape, parts-back, back-all, first-m, first-h, back-m, back-h}
 use Rattle.player.proofs.Staying.{piece-keeps}
 
 -- ---- what is played at a place

@@ -1,12 +1,12 @@
 // Playing a record in pieces: the public call.
-use crate::opening::open_first;
-use crate::opening::part;
 use pieces::Place;
 use pieces::put_line;
 use record::Entry;
 use record::fault_of;
 use record::head_of;
 use turns::Went;
+use turns::open_first;
+use turns::part;
 use turns::play_on;
 ghost use mathlib.Core.Path.{_≡_};
 ghost use Prim.Native.Nat.{_<_, _≤_};

@@ -1,6 +1,5 @@
 // Playing a record on the memory unit, in pieces: the public call.
 mod calls;
-mod opening;
 
 pub use calls::play;
 pub use pieces::Place;

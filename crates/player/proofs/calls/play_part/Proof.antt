@@ -2,7 +2,7 @@
 use mathlib.Core.Path.{refl}
 use lib.ListN.{getD}
 use denote.Ref.{now}
-use Rattle.player.proofs.Parts.{part-count}
+use Rattle.turns.proofs.Parts.{part-count}
 use Rattle.player.proofs.Starting.{plays-parts}
 use borrow.Author.Needs.{needs}
 use Rattle.player.proofs.calls.play_part.Statement.{statement}

@@ -1,9 +1,9 @@
 -- `open_first` meets its contract: a part of each column is lent, and comes back before the rest. Assumes nothing.
 use denote.Ref.{now}
-use Rattle.player.proofs.Parts.{part-count, opens-parts}
+use Rattle.turns.proofs.Parts.{part-count, opens-parts}
 use borrow.Author.Needs.{needs}
-use Rattle.player.proofs.opening.open_first.Statement.{statement}
-use Rattle.player.proofs.opening.open_first.Tie as tie
+use Rattle.turns.proofs.opening.open_first.Statement.{statement}
+use Rattle.turns.proofs.opening.open_first.Tie as tie
 
 part-requires : tie.Need-part-requires
 part-requires c κs = search needs

@@ -14,7 +14,7 @@ use Rattle.rules.specs.Box.{Reply, reply, right-sizes}
 use Rattle.rules.specs.Open.{opened, opening}
 use Rattle.lent.specs.Lent.{lent}
 use Rattle.pieces.specs.Pieces.{first-of, open-first}
-use Rattle.player.specs.Promises.{part-of, behind, put-back, Opens}
+use Rattle.turns.specs.Parts.{part-of, behind, put-back, Opens}
 
 -- ---- lists
 

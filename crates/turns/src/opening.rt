@@ -3,10 +3,10 @@ use memory::open;
 ghost use mathlib.Core.Path.{_≡_};
 ghost use Prim.Native.Nat.{min};
 ghost use Rattle.lent.specs.Lent.{lent};
-ghost use Rattle.player.specs.Promises.{Opens};
+ghost use Rattle.turns.specs.Parts.{Opens};
 
 // As many as n, but no more than there are.
-pub(crate) fn part(n: u32, len: usize) -> usize
+pub fn part(n: u32, len: usize) -> usize
     ensures { λ r. ⌜ r ≡ min n len ⌝ }
 {
     let k = n as usize;
@@ -18,7 +18,7 @@ pub(crate) fn part(n: u32, len: usize) -> usize
 
 // Opens a box of m words and h entries in the first part of the columns. Answers 0; 10 where m or h is out of range or a column is too
 // short, and then all is as it was found.
-pub(crate) fn open_first(
+pub fn open_first(
     m: u32,
     h: u32,
     numbers: &mut [u32; 22],
