@@ -1,27 +1,25 @@
 -- The next thing to do, choice by choice as the code makes it. Assumes nothing.
 use Prim.Native.Nat.{ℕ, _-_, _≤_, _<_}
 use mathlib.Core.Bool.{Bool, true, false, not, cond, _&&_}
-use mathlib.Core.List.{List, [], _∷_}
+use mathlib.Core.List.{List}
 use mathlib.Core.Option.{Option, none, some}
-use mathlib.Core.Path.{_≡_, refl, sym, ap, _∙_}
+use mathlib.Core.Path.{_≡_, refl, sym, _∙_}
 use native.Mathlib.Omega.{arith}
 use lib.Dec.{eqb}
 use lib.ListN.{length, getD, drop, length-drop, drop-of-length-le}
 use lib.Seq.{drop-cons}
-use borrow.Author.Tests.{lt-ltb, le-ltb, eq-eqb, ne-eqb}
+use borrow.Author.Tests.{eq-eqb, ne-eqb}
 use Rattle.rules.specs.declared.kinds.Request.{Request}
 use Rattle.record.specs.declared.asked.Asked.{Asked}
 use Rattle.record.specs.declared.asked.Asked.the-variants.{Known, Unknown}
 use Rattle.record.specs.declared.entry.Entry.{Entry}
 use Rattle.record.specs.declared.entry.Entry.the-variants.{Whole, Faulty}
 use Rattle.record.specs.Asked.{asked-as}
-use Rattle.record.specs.Requests.{request-of}
 use Rattle.record.specs.Fields.{Item, whole, fault, kinds, entry}
 use Rattle.record.specs.Reading.{nothing-behind}
 use Rattle.record.specs.Found.{place-of, as-entry, fault-of}
 use Rattle.pieces.specs.declared.place.Place.{Place}
-use Rattle.pieces.specs.declared.place.Deed.{Deed}
-use Rattle.pieces.specs.declared.place.Deed.the-variants.{Say, Step, Ask, Silent}
+use Rattle.pieces.specs.declared.place.Deed.the-variants.{Say, Ask, Silent}
 use Rattle.pieces.specs.declared.moves.Move as code
 use Rattle.pieces.specs.declared.moves.Move.the-variants.{Go, Wait}
 use Rattle.pieces.specs.Pieces.{Move, go, wait, ended, may-come, refuse, asked, take-record, next-record}

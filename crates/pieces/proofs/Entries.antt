@@ -1,18 +1,17 @@
 -- What playing needs of the reader beside its laws: a count of records above all numbers of 32 bits may stand still, since the count at
 -- the end is such a number, and so none above. Assumes nothing.
 use Prim.Native.Nat.{ℕ, zero, suc, _<_, _≤_}
-use mathlib.Core.Bool.{Bool, true, false, cond}
+use mathlib.Core.Bool.{Bool, true, false}
 use mathlib.Core.List.{List, [], _∷_}
-use mathlib.Core.Logic.{_≢_}
 use mathlib.Core.Option.{Option, none, some}
-use mathlib.Core.Path.{_≡_, refl, sym, _∙_, ap, subst}
+use mathlib.Core.Path.{_≡_, refl, sym, _∙_, ap}
 use native.Mathlib.Numerals.{add-one}
 use native.Mathlib.Omega.{arith}
 use borrow.Author.Tests.{ltb-false, eqb-true, ne-eqb}
-use lib.Dec.{leb, ltb, eqb}
+use lib.Dec.{ltb}
 use lib.ListN.{length, getD}
-use Rattle.record.specs.Number.{Number, found, refused, before, more-groups, number}
-use Rattle.record.specs.Fields.{most32, Item, whole, fault, row, kinds, joined, within, field, fields, named, entry}
+use Rattle.record.specs.Number.{Number, found, refused, number}
+use Rattle.record.specs.Fields.{most32, Item, whole, fault, row, kinds, joined, field, fields, named, entry}
 use Rattle.record.specs.Reading.{reading, item-before, is-end, ending, records}
 use Rattle.record.proofs.Laws.{fault-not-whole, field-bound, fields-found, fields-refused, entry-found, entry-refused, entry-behind, records-fault, records-end, records-item}
 use Rattle.pieces.specs.Pieces.{one-more}

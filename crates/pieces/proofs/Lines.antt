@@ -1,14 +1,14 @@
 -- Lines as text: what one and two digits are, and runs of stores. Assumes nothing.
-use Prim.Native.Nat.{ℕ, zero, suc, _+_, _/_, _%_, _≤_, _<_}
+use Prim.Native.Nat.{ℕ, suc, _+_, _/_, _%_, _≤_, _<_}
 use mathlib.Core.List.{List, [], _∷_, _++_}
-use mathlib.Core.Path.{_≡_, refl, sym, ap, _∙_}
+use mathlib.Core.Path.{_≡_}
 use native.Mathlib.Omega.{arith}
 use native.Mathlib.Numerals.{add-one}
 use native.Mathlib.Nat.{add-suc, suc-add, add-zero}
-use lib.ListN.{length, set, length-append}
+use lib.ListN.{length, set}
 use lib.Seq.{sets}
 use borrow.Author.Tests.{lt-ltb, le-ltb}
-use Rattle.pieces.specs.Text.{digit, digits, decimal, line, text}
+use Rattle.pieces.specs.Text.{digit, digits, decimal, line}
 
 -- one digit, and two
 pub line-one : (a : ℕ) → a < 10 → line a ≡ digit a ∷ 10 ∷ []

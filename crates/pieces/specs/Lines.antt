@@ -9,7 +9,6 @@ use lib.ListN.{getD}
 use Rattle.rules.specs.declared.kinds.Request.{Request}
 use Rattle.rules.specs.Limits.{in-range}
 use Rattle.rules.specs.Parts.{Box}
-use Rattle.rules.specs.Box.{Reply}
 use Rattle.rules.specs.Request as rules-request
 use Rattle.rules.specs.Collector.{step}
 use Rattle.rules.specs.Open.{opened}

@@ -13,7 +13,7 @@ use Rattle.rules.specs.Request as rules-request
 use Rattle.rules.specs.Collector.{step}
 use Rattle.rules.specs.Open.{opening}
 use Rattle.record.specs.Number.{cut, too-large, bytes-after}
-use Rattle.record.specs.Fields.{Item, whole, fault, kinds, editions, entry}
+use Rattle.record.specs.Fields.{whole, fault, kinds, editions, entry}
 use Rattle.record.specs.Reading.{is-end, nothing-behind}
 use Rattle.record.specs.Requests.{request-of}
 use Rattle.pieces.specs.declared.place.Place.{Place}

@@ -1,11 +1,11 @@
 -- The start of a string, and any call: what each case comes to. Assumes nothing.
 use Prim.Native.Nat.{ℕ, _+_, _-_, _≤_, _<_, min}
-use mathlib.Core.Bool.{Bool, true, false, not, cond, _&&_}
+use mathlib.Core.Bool.{Bool, true, false, cond}
 use mathlib.Core.List.{List, [], _∷_, _++_, append-nil}
 use mathlib.Core.Logic.{⊎-elim}
 use mathlib.Core.Path.{_≡_, refl, sym, _∙_, ap, subst}
 use native.Mathlib.Omega.{arith}
-use lib.Dec.{ltb, eqb}
+use lib.Dec.{eqb}
 use lib.ListN.{length, getD, take, drop}
 use lib.Seq.{sets}
 use borrow.Author.Tests.{lt-ltb, le-ltb, eq-eqb, ne-eqb}
@@ -18,11 +18,11 @@ use Rattle.record.specs.declared.entry.Entry.{Entry}
 use Rattle.record.specs.declared.entry.Entry.the-variants.{Whole, Faulty}
 use Rattle.record.specs.Fields.{Item, whole, fault, editions, entry}
 use Rattle.record.specs.Found.{place-of, as-entry, fault-of}
-use Rattle.record.proofs.Laws.{AtEnd, at-end, entry-behind}
+use Rattle.record.proofs.Laws.{at-end, entry-behind}
 use Rattle.record.proofs.Refusals.{entry-fault-named}
 use Rattle.pieces.specs.declared.place.Place.{Place}
 use Rattle.pieces.specs.Text.{line, text}
-use Rattle.pieces.specs.Pieces.{at, over, begun-at, may-come, Piece, piece, first-of, open-first, begun, not-begun, begin, begin-piece, play-piece, play-call}
+use Rattle.pieces.specs.Pieces.{at, over, begun-at, may-come, piece, first-of, open-first, begun, not-begun, begin, begin-piece, play-piece, play-call}
 use Rattle.turns.specs.Outcome.{Outcome, leaves, outcome}
 use Rattle.turns.specs.Parts.{part-of, put-back, Opens}
 use Rattle.player.specs.Promises.{played-at, Says, Refuses, PlaysPart, ComesTo, Plays}

@@ -3,7 +3,7 @@
 use Prim.Native.Nat.{ℕ, zero, suc, _+_, _<_}
 use mathlib.Core.Bool.{Bool, true, false, cond}
 use mathlib.Core.List.{List}
-use mathlib.Core.Path.{_≡_, refl, sym, _∙_, ap, subst}
+use mathlib.Core.Path.{_≡_, refl, _∙_, ap, subst}
 use native.Mathlib.Omega.{arith}
 use lib.Dec.{leb, ltb, eqb}
 use borrow.Author.Tests.{ltb-true, ltb-false}
@@ -11,14 +11,14 @@ use lib.ListN.{length, getD}
 use Rattle.rules.specs.declared.kinds.Request.{Request}
 use Rattle.rules.specs.declared.kinds.Request.the-variants.{Setd, Nil, Move as MoveTo, Advance, Getm, Load, Store, Size, Tag, Same}
 use Rattle.rules.specs.Parts.{Box}
-use Rattle.rules.specs.Box.{Reply, reply, register, handle-of, offset-of, is-nil, size-of, is-entry, sound}
+use Rattle.rules.specs.Box.{Reply, register, handle-of, offset-of, is-nil, size-of, is-entry, sound}
 use Rattle.rules.specs.Limits.{half-word}
 use Rattle.rules.specs.Place.{place, in-memory}
 use Rattle.record.specs.Fields.{Item, whole, fault, kinds, entry}
 use Rattle.record.specs.Reading.{is-end, nothing-behind}
 use Rattle.rules.specs.Request.{advance, getm, load, store, store-word, size, tag, tag-at, same, at-tuple, at-word, word-number, no-room, can-make, new-tuple, put-on-hold, registers-right, carry-out as carry-request, request}
 use Rattle.rules.specs.Collector.{step}
-use Rattle.rules.proofs.Kept.{Outline, outline, Keeps, same as keeps-same, tuple-keeps, store-keeps}
+use Rattle.rules.proofs.Kept.{Outline, Keeps, same as keeps-same, tuple-keeps, store-keeps}
 use Rattle.steps.proofs.Ruling.{stepped-outline}
 use Rattle.pieces.specs.declared.place.Deed.{Deed}
 use Rattle.pieces.specs.declared.place.Deed.the-variants.{Say, Step, Ask, Silent}

@@ -4,15 +4,15 @@ use mathlib.Core.List.{List, [], _∷_}
 use mathlib.Core.Option.{Option, none, some}
 use mathlib.Core.Path.{_≡_, refl, sym, ap, _∙_}
 use native.Mathlib.Omega.{arith}
-use lib.ListN.{length, getD, drop, length-drop}
+use lib.ListN.{length, drop, length-drop}
 use lib.Seq.{drop-drop}
 use borrow.Author.Tests.{le-leb, lt-leb, ne-eqb}
 use Rattle.record.specs.declared.number.Number as code
 use Rattle.record.specs.declared.number.Number.the-variants.{Found, Refused}
 use Rattle.record.specs.declared.entry.Entry.{Entry}
-use Rattle.record.specs.declared.entry.Entry.the-variants.{Whole, Faulty}
+use Rattle.record.specs.declared.entry.Entry.the-variants.{Faulty}
 use Rattle.record.specs.Number.{Number, found, refused, number, unknown, too-large}
-use Rattle.record.specs.Fields.{Item, whole, fault, joined, within, field, fields, named, entry, row, kinds, editions}
+use Rattle.record.specs.Fields.{whole, fault, joined, within, field, fields, named, entry, row, kinds, editions}
 use Rattle.record.specs.Found.{place-of, as-number, refusal-of, as-entry}
 use Rattle.record.proofs.Laws.{Behind, number-behind, field-behind, fields-found, fields-refused, entry-found, entry-refused}
 

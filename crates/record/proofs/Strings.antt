@@ -6,11 +6,11 @@ use mathlib.Core.List.{List, [], _∷_, _++_, append-nil}
 use mathlib.Core.Option.{Option, none, some}
 use mathlib.Core.Path.{_≡_, refl, sym, _∙_, ap, subst}
 use native.Mathlib.Omega.{arith}
-use lib.Dec.{leb, ltb, eqb}
+use lib.Dec.{leb, eqb}
 use lib.ListN.{length, getD}
 use borrow.Author.Tests.{leb-true, eqb-true, eqb-false, le-leb, eq-eqb}
-use Rattle.record.specs.Number.{Number, found, refused, too-large, bytes-after, before, more-groups, number, number-bytes}
-use Rattle.record.specs.Fields.{Item, whole, fault, most32, row, kinds, editions, joined, within, field, fields, named, entry}
+use Rattle.record.specs.Number.{too-large, bytes-after, number-bytes}
+use Rattle.record.specs.Fields.{Item, whole, fault, most32, row, kinds, editions, entry}
 use Rattle.record.specs.Reading.{Reading, reading, item-before, is-end, nothing-behind, ending, records, read, all-numbers}
 use Rattle.record.specs.Writing.{Taken, taken, turned-down, bytes-before, take-fields, take-named, take-entry, Writing, writing, written-before, write-end, write-records, write}
 use Rattle.record.specs.Claims.{AllBytes, item-bytes}

@@ -6,7 +6,7 @@ use mathlib.Core.List.{List, [], _∷_, _++_}
 use lib.Dec.{leb, eqb}
 use lib.ListN.{length, getD}
 use Rattle.record.specs.Number.{cut, too-large, bytes-after, not-understood}
-use Rattle.record.specs.Fields.{Item, whole, fault, kinds, editions, entry}
+use Rattle.record.specs.Fields.{whole, fault, kinds, editions, entry}
 
 -- what was read whole: edition, M and H, and then each record's kind and fields; and the answer
 pub record Reading : Type 0 where

@@ -1,15 +1,15 @@
 -- A part of the lent columns, and what is behind it. By lists, and then by boxes: what is put back is there again, and so is what was behind
 -- it. Assumes nothing.
-use Prim.Native.Nat.{ℕ, _+_, _-_, _≤_, _<_, min}
-use mathlib.Core.Bool.{Bool, true, false, cond}
-use mathlib.Core.List.{List, [], _∷_, _++_, append-nil}
+use Prim.Native.Nat.{ℕ, _+_, _-_, min}
+use mathlib.Core.Bool.{Bool, true, false}
+use mathlib.Core.List.{List, [], _++_, append-nil}
 use mathlib.Core.Path.{_≡_, refl, sym, _∙_, ap, subst}
 use native.Mathlib.Omega.{arith}
-use lib.Dec.{leb, eqb}
+use lib.Dec.{leb}
 use borrow.Author.Tests.{leb-true, leb-false}
 use lib.ListN.{length, take, drop, length-take, take-append-drop, drop-of-length-le}
 use lib.Seq.{take-all, take-at, drop-length}
-use Rattle.rules.specs.Parts.{Memory, Directory, Box}
+use Rattle.rules.specs.Parts.{Box}
 use Rattle.rules.specs.Box.{Reply, reply, right-sizes}
 use Rattle.rules.specs.Open.{opened, opening}
 use Rattle.lent.specs.Lent.{lent}

@@ -1,6 +1,6 @@
 -- One turn of a piece, as the code takes it: what a move leaves of the bytes, that answers are below 100, and that a turn comes to what all
 -- turns come to. Assumes nothing.
-use Prim.Native.Nat.{ℕ, zero, suc, _+_, _-_, _≤_, _<_}
+use Prim.Native.Nat.{ℕ, _+_, _-_, _≤_, _<_}
 use mathlib.Core.Bool.{Bool, true, false, cond}
 use mathlib.Core.List.{List, [], _∷_, _++_, append-nil, append-assoc}
 use mathlib.Core.Logic.{⊎-elim}
@@ -16,7 +16,6 @@ use Rattle.rules.specs.Box.{Reply, reply}
 use Rattle.rules.specs.Request as rules-request
 use Rattle.rules.specs.Collector.{step}
 use Rattle.rules.proofs.Demand1.{demand1}
-use Rattle.record.specs.Number.{too-large, bytes-after}
 use Rattle.record.specs.Fields.{Item, whole, fault, kinds, entry}
 use Rattle.record.specs.Reading.{is-end, nothing-behind}
 use Rattle.record.specs.Requests.{request-of}
@@ -29,9 +28,9 @@ use Rattle.pieces.specs.declared.place.Deed.the-variants.{Say, Step, Ask, Silen
 use Rattle.pieces.specs.declared.moves.Move as code
 use Rattle.pieces.specs.declared.moves.Move.the-variants.{Go, Wait}
 use Rattle.pieces.specs.Text.{line, text}
-use Rattle.pieces.specs.Pieces.{playing, Move, go, wait, may-come, refuse, finish, asked, play-now, take-record, next-record, go-on, look-behind, next, carry-out, printed, at-end as end-stage, Piece, piece, lines-before, room-behind, play-piece}
+use Rattle.pieces.specs.Pieces.{playing, Move, go, wait, may-come, refuse, finish, asked, play-now, take-record, next-record, go-on, look-behind, next, carry-out, printed, at-end as end-stage, Piece, lines-before, room-behind, play-piece}
 use Rattle.pieces.specs.Moves.{as-move}
-use Rattle.turns.specs.Outcome.{Outcome, leaves, outcome, rest-of, to-go, Turned}
+use Rattle.turns.specs.Outcome.{Outcome, leaves, outcome, rest-of, Turned}
 use borrow.Author.Tests.{ltb-true, ltb-false}
 use Rattle.pieces.proofs.Lines.{line-one, line-two, sets-more}
 use Rattle.pieces.proofs.Turns.{either, goes-less, piece-full, piece-waits, piece-goes}

@@ -1,6 +1,6 @@
 -- `to_front` meets its contract. The loop's invariant: the input is as long as it was. The measure is how many bytes are left to move. Assumes nothing.
 use Prim.Native.Nat.{_≤_, _-_}
-use mathlib.Core.Path.{_≡_, refl, _∙_}
+use mathlib.Core.Path.{_≡_, refl}
 use native.Mathlib.Omega.{arith}
 use lib.ListN.{length, length-set}
 use borrow.Author.Needs.{needs}

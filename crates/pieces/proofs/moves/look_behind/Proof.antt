@@ -1,7 +1,6 @@
 -- `look_behind` meets its contract: whether a byte is behind the place. Assumes nothing.
 use denote.Ref.{now}
 use mathlib.Core.Path.{_∙_}
-use native.Mathlib.Omega.{arith}
 use Rattle.pieces.specs.Pieces.{look-behind}
 use Rattle.pieces.proofs.Choices.{place-here, something-behind, none-behind}
 use borrow.Author.Needs.{needs}

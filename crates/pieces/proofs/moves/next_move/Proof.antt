@@ -1,5 +1,4 @@
 -- `next_move` meets its contract, by the stage. Assumes nothing.
-use native.Mathlib.Omega.{arith}
 use borrow.Author.Tests.{lt-ltb, le-ltb, eq-eqb, ne-eqb}
 use Rattle.pieces.specs.Pieces.{next}
 use borrow.Author.Needs.{needs}

@@ -3,7 +3,7 @@ use mathlib.Core.Path.{refl}
 use lib.ListN.{length, drop}
 use denote.Ref.{now}
 use Rattle.record.specs.Fields.{kinds, entry}
-use Rattle.pieces.proofs.Choices.{record-faulty, record-whole, next-whole, place-here, WholeAt}
+use Rattle.pieces.proofs.Choices.{record-faulty, record-whole, next-whole, place-here}
 use borrow.Author.Needs.{needs}
 use Rattle.pieces.proofs.moves.next_record.Statement.{statement}
 use Rattle.pieces.proofs.moves.next_record.Tie as tie

@@ -1,5 +1,5 @@
 -- `one` meets its contract, by what a field at a place gives. Assumes nothing.
-use mathlib.Core.List.{[], _∷_}
+use mathlib.Core.List.{[]}
 use lib.ListN.{drop}
 use denote.Ref.{now}
 use Rattle.record.specs.Fields.{field, joined}
