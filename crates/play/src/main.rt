@@ -4,23 +4,28 @@
 use libc::STDIN_FILENO;
 use libc::STDOUT_FILENO;
 use player::Place;
-ghost use Prim.Native.Nat.{_+_, _<_, _≤_};
-ghost use lib.ListN.{length};
+ghost use mathlib.Core.Path.{_≡_};
+ghost use Prim.Native.Nat.{_+_, _-_, _<_, _≤_};
+ghost use lib.ListN.{length, take, drop};
+ghost use Rattle.lent.specs.Lent.{lent};
+ghost use Rattle.player.specs.Promises.{Plays};
+ghost use Rattle.play.specs.Hand.{at-hand, Within, Fed};
 
-// Where the playing stands; the bytes at hand, from one place of the input to another; whether they are the last; whether more are
-// wanted; and whether there is something left to do.
+// Where the playing stands; the bytes at hand, from one place of the input to another; whether they are the last; how many bytes of the
+// output were written; and whether more bytes are wanted.
 struct Reader {
     place: Place,
     from: usize,
     till: usize,
     last: bool,
+    written: usize,
     wants: bool,
-    going: bool,
 }
 
 // Moves the bytes at hand to the front.
 fn to_front(input: &mut [u8], from: usize, till: usize)
     requires { ⌜ (from ≤ till) × (till ≤ length (now input)) ⌝ }
+    ensures { λ _. ⌜ take (till - from) (now (input .exit)) ≡ take (till - from) (drop from (now (input .entry))) ⌝ }
 {
     let n = till - from;
     let mut i = 0;
@@ -33,7 +38,7 @@ fn to_front(input: &mut [u8], from: usize, till: usize)
 // Reads behind the first n bytes, and gives how many came.
 fn read_behind(input: &mut [u8], n: usize) -> usize
     requires { ⌜ n ≤ length (now input) ⌝ }
-    ensures { λ r. ⌜ n + r ≤ length (now (input .exit)) ⌝ }
+    ensures { λ r. ⌜ (n + r ≤ length (now (input .exit))) × (take n (now (input .exit)) ≡ take n (now (input .entry))) ⌝ }
 {
     let behind = &mut input[n..];
     let got = libc::read(STDIN_FILENO, behind);
@@ -42,8 +47,8 @@ fn read_behind(input: &mut [u8], n: usize) -> usize
 
 // The bytes at hand, and more behind them. Where none come they are the last.
 fn more(r: Reader, input: &mut [u8; 65536]) -> Reader
-    requires { ⌜ (r .from ≤ r .till) × (r .till ≤ 65536) ⌝ }
-    ensures { λ s. ⌜ (s .from ≤ s .till) × (s .till ≤ 65536) ⌝ }
+    requires { ⌜ Within r 65536 ⌝ }
+    ensures { λ s. ⌜ Fed r s (now (input .entry)) (now (input .exit)) ⌝ }
 {
     let from = r.from;
     let till = r.till;
@@ -56,15 +61,15 @@ fn more(r: Reader, input: &mut [u8; 65536]) -> Reader
         from: 0,
         till: n + got,
         last: got == 0,
+        written: 0,
         wants: false,
-        going: true,
     }
 }
 
 // More bytes where they are wanted.
 fn fed(r: Reader, input: &mut [u8; 65536]) -> Reader
-    requires { ⌜ (r .from ≤ r .till) × (r .till ≤ 65536) ⌝ }
-    ensures { λ s. ⌜ (s .from ≤ s .till) × (s .till ≤ 65536) ⌝ }
+    requires { ⌜ Within r 65536 ⌝ }
+    ensures { λ s. ⌜ Fed r s (now (input .entry)) (now (input .exit)) ⌝ }
 {
     let wants = r.wants;
     if wants {
@@ -81,6 +86,11 @@ fn print(out: &[u8], n: usize) -> bool {
     io::write_all(STDOUT_FILENO, &out[..n])
 }
 
+// The same of the output.
+fn print_out(out: &[u8; 65536], n: usize) -> bool {
+    print(out, n)
+}
+
 // Whether there is something left to do: not after the last bytes where they give nothing more, and not where a write failed.
 fn goes_on(printed: bool, wants: bool, last: bool) -> bool {
     if printed {
@@ -92,7 +102,7 @@ fn goes_on(printed: bool, wants: bool, last: bool) -> bool {
     false
 }
 
-// Plays the bytes at hand and prints what that gives.
+// Plays the bytes at hand.
 fn play_some(
     r: Reader,
     input: &[u8],
@@ -108,8 +118,8 @@ fn play_some(
     deeps: &mut [bool; 1024],
     out: &mut [u8],
 ) -> Reader
-    requires { ⌜ (r .from ≤ r .till) × (r .till ≤ length (now input)) ⌝ }
-    ensures { λ s. ⌜ (s .from ≤ s .till) × (s .till ≤ length (now (input .entry))) ⌝ }
+    requires { ⌜ Within r (length (now input)) ⌝ }
+    ensures { λ s. ⌜ (s .last ≡ r .last) × Within s (length (now (input .entry))) × Plays (r .last) (r .place) (at-hand r (now (input .entry))) (now (out .entry)) (now (out .exit)) (lent (now (numbers .entry)) (now (switches .entry)) (now (hold .entry)) (now (words .entry)) (now (flags .entry)) (now (addresses .entry)) (now (sizes .entry)) (now (links .entry)) (now (marks .entry)) (now (deeps .entry))) (lent (now (numbers .exit)) (now (switches .exit)) (now (hold .exit)) (now (words .exit)) (now (flags .exit)) (now (addresses .exit)) (now (sizes .exit)) (now (links .exit)) (now (marks .exit)) (now (deeps .exit))) (s .place) (s .from - r .from) (s .written) (s .wants) ⌝ }
 {
     let from = r.from;
     let till = r.till;
@@ -132,18 +142,17 @@ fn play_some(
         out,
     );
     let stands = went.place;
-    let printed = print(out, went.written);
     Reader {
         place: stands,
         from: from + went.used,
         till,
         last,
+        written: went.written,
         wants: went.waits,
-        going: goes_on(printed, went.waits, last),
     }
 }
 
-// Reads where more bytes are wanted, plays and prints.
+// Reads where more bytes are wanted, and plays.
 fn turn(
     r: Reader,
     input: &mut [u8; 65536],
@@ -159,8 +168,8 @@ fn turn(
     deeps: &mut [bool; 1024],
     out: &mut [u8; 65536],
 ) -> Reader
-    requires { ⌜ (r .from ≤ r .till) × (r .till ≤ 65536) ⌝ }
-    ensures { λ s. ⌜ (s .from ≤ s .till) × (s .till ≤ 65536) ⌝ }
+    requires { ⌜ Within r 65536 ⌝ }
+    ensures { λ s. ⌜ Within s 65536 ⌝ }
 {
     let s = fed(r, input);
     play_some(
@@ -214,8 +223,8 @@ fn main() {
         from: 0,
         till: 0,
         last: false,
+        written: 0,
         wants: true,
-        going: true,
     };
     let mut turns = u64::MAX;
     while turns > 0 {
@@ -234,6 +243,6 @@ fn main() {
             &mut deeps,
             &mut out,
         );
-        turns = turns_left(turns, r.going);
+        turns = turns_left(turns, goes_on(print_out(&out, r.written), r.wants, r.last));
     }
 }

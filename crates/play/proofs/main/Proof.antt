@@ -17,14 +17,20 @@ loop-holds c = (omega arith, omega arith)
 turn-requires : tie.Need-turn-requires Inv-loop μ-loop
 turn-requires c κs = c .before .before .before .before .before .before .before .before .before .before .before .before .before .loop .inv
 
+print-out-requires : tie.Need-print-out-requires Inv-loop μ-loop
+print-out-requires c κs = search needs
+
+goes-on-requires : tie.Need-goes-on-requires Inv-loop μ-loop
+goes-on-requires c κs = search needs
+
 turns-left-requires : tie.Need-turns-left-requires Inv-loop μ-loop
-turns-left-requires c κs = c .before .before .before .before .before .before .before .before .before .before .before .before .before .loop-test .taken
+turns-left-requires c κs = c .before .before .before .before .before .before .before .before .before .before .before .before .before .before .before .before .loop-test .taken
 
 loop-less : tie.Need-loop-less Inv-loop μ-loop
 loop-less c = c .turns-left .ensures
 
 loop-again : tie.Need-loop-again Inv-loop μ-loop
-loop-again c = c .before .turn .ensures
+loop-again c = c .before .before .before .before .turn .ensures
 
 returns : tie.Need-returns Inv-loop μ-loop
 returns c = search needs
@@ -37,6 +43,8 @@ main-spec =
     μ-loop
     loop-holds
     turn-requires
+    print-out-requires
+    goes-on-requires
     turns-left-requires
     loop-less
     loop-again

@@ -1,14 +1,17 @@
--- `to_front` meets its contract. The loop's invariant: the input is as long as it was. The measure is how many bytes are left to move. Assumes nothing.
+-- `to_front` meets its contract. The loop's invariant: the bytes moved are those at hand, and from there on the input is as it was. The measure
+-- is how many bytes are left to move. Assumes nothing.
 use Prim.Native.Nat.{_≤_, _-_}
 use mathlib.Core.Path.{_≡_, refl}
 use native.Mathlib.Omega.{arith}
-use lib.ListN.{length, length-set}
+use lib.ListN.{length, take, drop, length-set}
+use denote.Ref.{now}
 use borrow.Author.Needs.{needs}
+use Rattle.play.proofs.Hands.{moved-more, moved-left}
 use Rattle.play.proofs.to_front.Statement.{statement}
 use Rattle.play.proofs.to_front.Tie as tie
 
 abbrev Inv-loop : tie.InvT-loop
-Inv-loop input₀ from till n i₀ input i = (length input ≡ length input₀) × (n ≡ till - from) × (i ≤ n)
+Inv-loop input₀ from till n i₀ input i = (length input ≡ length input₀) × (n ≡ till - from) × (i ≤ n) × (take i input ≡ take i (drop from input₀)) × (drop i input ≡ drop i input₀)
 
 abbrev μ-loop : tie.MeasureT-loop
 μ-loop input₀ from till n i₀ input i = n - i
@@ -17,7 +20,7 @@ sub-n : tie.Need-sub-n Inv-loop μ-loop
 sub-n c = search needs
 
 loop-holds : tie.Need-loop-holds Inv-loop μ-loop
-loop-holds c = (refl, refl, omega arith)
+loop-holds c = (refl, refl, omega arith, refl, refl)
 
 add-input : tie.Need-add-input Inv-loop μ-loop
 add-input c = omega arith
@@ -35,13 +38,13 @@ loop-less : tie.Need-loop-less Inv-loop μ-loop
 loop-less c = omega arith
 
 loop-again : tie.Need-loop-again Inv-loop μ-loop
-loop-again c = (simp length-set (c .before .before .loop .inv .0), c .before .before .loop .inv .1, omega arith)
+loop-again c = (simp length-set (c .before .before .loop .inv .0), c .before .before .loop .inv .1, omega arith, moved-more (now (c .before .before .before .args .input)) (c .before .before .loop .input) (c .before .before .before .args .from) (c .before .before .loop .i) (c .before .before .loop .inv .0) (omega arith) (c .before .before .loop .inv .3) (c .before .before .loop .inv .4), moved-left (now (c .before .before .before .args .input)) (c .before .before .loop .input) (c .before .before .before .args .from) (c .before .before .loop .i) (c .before .before .loop .inv .0) (omega arith) (c .before .before .loop .inv .3) (c .before .before .loop .inv .4))
 
 same-length : tie.Need-same-length Inv-loop μ-loop
 same-length c = c .before .loop .inv .0
 
 returns : tie.Need-returns Inv-loop μ-loop
-returns c = search needs
+returns c = let e : c .before .before .args .till - c .before .before .args .from ≡ c .before .loop .i = omega (arith, c .before .loop .inv .1, c .before .loop .inv .2, c .loop-test .left) in rw e (c .before .loop .inv .3)
 
 pub to-front-spec : {M : Type 1} → statement M
 to-front-spec =
