@@ -1,5 +1,8 @@
 //! A second player of records (M-100): the second reader feeds the second
-//! program, which gives the numbers that are printed, one a line.
+//! program, which gives the numbers that are printed, one a line. And where the
+//! program `play` is, which is held against it.
+
+use std::path::{Path, PathBuf};
 
 use crate::call::*;
 use crate::capi::request_of;
@@ -126,4 +129,14 @@ pub fn most_lines(bytes: &[u8]) -> u64 {
         rest = &fields[record::fields(*kind).count()..];
     }
     lines
+}
+
+/// The program `play`.
+pub fn program() -> PathBuf {
+    let path = Path::new(env!("CARGO_MANIFEST_DIR")).join("../target/bin/play");
+    assert!(
+        path.exists(),
+        "target/bin/play is missing: `rt check play`, in the root of the repository, builds it"
+    );
+    path
 }

@@ -12,7 +12,7 @@ use std::time::Duration;
 
 use gloamish_tests::call::Request;
 use gloamish_tests::compare_record::hex;
-use gloamish_tests::playback::{most_lines, play, play_with, text};
+use gloamish_tests::playback::{most_lines, play, play_with, program, text};
 use gloamish_tests::random::{self, Rng};
 use gloamish_tests::record::{self, write};
 use gloamish_tests::strings::{self, Damage, Recorder};
@@ -20,15 +20,6 @@ use gloamish_tests::{examples, RecordFault};
 
 /// The longest that the program may take for one record.
 const PATIENCE: Duration = Duration::from_secs(100);
-
-fn program() -> PathBuf {
-    let path = Path::new(env!("CARGO_MANIFEST_DIR")).join("../target/bin/play");
-    assert!(
-        path.exists(),
-        "target/bin/play is missing: `rt check play`, in the root of the repository, builds it"
-    );
-    path
-}
 
 /// How the program gets a record.
 #[derive(Clone, Copy, Debug)]
