@@ -10,7 +10,8 @@ use Rattle.rules.specs.Request as rules-request
 use Rattle.rules.specs.Run.{ran, run}
 use Rattle.record.specs.declared.asked.Asked.{Asked}
 use Rattle.record.specs.declared.asked.Asked.the-variants.{Known, Unknown}
-use Rattle.capi.specs.Calls.{not-understood, c-asked, c-request, in-one, c-run}
+use Rattle.capi.specs.Calls.{c-asked, c-request, in-one, c-run}
+use Rattle.record.specs.Number.{not-understood}
 use Rattle.record.specs.Requests.{request-of}
 use Rattle.record.specs.Asked.{asked-as}
 

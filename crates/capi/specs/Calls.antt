@@ -7,13 +7,10 @@ use Rattle.rules.specs.Parts.{Box}
 use Rattle.rules.specs.Box.{Reply, reply}
 use Rattle.rules.specs.Request as rules-request
 use Rattle.rules.specs.Run.{Ran, run}
+use Rattle.record.specs.Number.{not-understood}
 use Rattle.record.specs.Requests.{request-of}
 
--- the answer to an unknown kind, or a 16-bit field above 65,535
-abbrev pub not-understood : ℕ
-not-understood = 4294967295
-
--- numbers that ask for no request change nothing
+-- numbers that ask for no request, an unknown kind or a 16-bit field above 65,535, change nothing
 unfoldable pub c-asked : Option Request → Box → Reply
 c-asked none b = reply b not-understood
 c-asked (some q) b = rules-request.request q b

@@ -3,24 +3,20 @@
 use Prim.Native.Nat.{ℕ, zero, suc, _+_, _<_, _≤_}
 use mathlib.Core.Bool.{Bool, true, false}
 use mathlib.Core.List.{List, [], _∷_, append-nil}
-use mathlib.Core.Logic.{⊎-elim}
 use mathlib.Core.Path.{_≡_, refl, subst}
 use native.Mathlib.Omega.{arith}
 use borrow.Author.Tests.{ltb-true, ltb-false}
 use lib.Dec.{ltb, eqb}
 use lib.ListN.{length, getD, length-append}
 use Rattle.rules.specs.Parts.{Box}
-use Rattle.rules.specs.Box.{Reply, reply}
-use Rattle.rules.specs.Open.{opening}
-use Rattle.rules.proofs.Demand1.{demand1}
 use Rattle.record.specs.Fields.{Item, whole, fault, editions, entry}
 use Rattle.record.proofs.Refusals.{either-way}
 use Rattle.pieces.specs.declared.place.Place.{Place}
 use Rattle.pieces.specs.Text.{text}
-use Rattle.pieces.specs.Pieces.{at-start, Move, go, wait, may-come, next, carry-out, printed, Piece, room-behind, play-in, play-piece, first-of, open-first, begun, not-begun, begin, begin-piece, play-call}
+use Rattle.pieces.specs.Pieces.{at-start, Move, go, wait, may-come, next, carry-out, printed, Piece, room-behind, play-in, play-piece, begun, not-begun, begin, begin-piece, play-call}
 use Rattle.pieces.proofs.Turns.{in-full, in-waits, in-goes}
 use Rattle.turns.proofs.Turning.{Fair, next-fair, answer-small, text-append, room-behind-text, line-short, printed-short}
-use Rattle.player.proofs.Starting.{fault-small}
+use Rattle.player.proofs.Starting.{fault-small, open-small}
 
 abbrev Fits : ℕ → Piece → Type 0
 Fits room r = length (text (r .lines)) ≤ room
@@ -42,14 +38,6 @@ fits-in (suc turns) last room p bs b = by (ltb room 3) refl (next last p bs) ref
         (omega (arith, printed-short d (carry-out d b .answer) small, room-behind-text (printed d (carry-out d b .answer)) room, ih (room-behind (printed d (carry-out d b .answer)) room) q rest (carry-out d b .box)))
 
 -- ---- the start
-
--- the answer of an opening is 0 or 10
-open-small : (m h : ℕ) (b : Box) → open-first m h b .answer < 100
-unfolding open-first
-open-small m h b = either-way (λ (r : Reply). r .answer < 100) (eqb (opening m h (first-of m h b) .answer) 0) (opening m h (first-of m h b)) (reply b (opening m h (first-of m h b) .answer)) low low
-  where
-    low : opening m h (first-of m h b) .answer < 100
-    low = ⊎-elim (λ e. omega arith) (λ e. omega arith) (demand1 (first-of m h b) .opening-answers m h)
 
 -- one line, of a number below 100
 one-fits : (room a : ℕ) → 3 ≤ room → a < 100 → length (text (a ∷ [])) ≤ room

@@ -19,7 +19,7 @@ use Rattle.record.specs.declared.entry.Entry.the-variants.{Whole, Faulty}
 use Rattle.record.specs.Fields.{Item, whole, fault, editions, entry}
 use Rattle.record.specs.Found.{place-of, as-entry, fault-of}
 use Rattle.record.proofs.Laws.{at-end, entry-behind}
-use Rattle.record.proofs.Refusals.{entry-fault-named}
+use Rattle.record.proofs.Refusals.{either-way, entry-fault-named}
 use Rattle.pieces.specs.declared.place.Place.{Place}
 use Rattle.pieces.specs.Text.{line, text}
 use Rattle.pieces.specs.Pieces.{at, over, begun-at, may-come, piece, first-of, open-first, begun, not-begun, begin, begin-piece, play-piece, play-call}
@@ -132,16 +132,15 @@ start-whole bs (whole ns rest) i e u k m h c behind w =
     record { ns = ns; is = i ∙ ap (whole ns) d; m-is = cc; h-is = cc; inside = omega arith }
 
 -- the answer of an opening is 0 or 10
-pub opens-small : (m h : ℕ) (b b1 : Box) (a : ℕ) → Opens m h b b1 a → a < 100
+pub open-small : (m h : ℕ) (b : Box) → open-first m h b .answer < 100
 unfolding open-first
-opens-small m h b b1 a o = by (eqb (opening m h (first-of m h b) .answer) 0) (ap (λ (r : Reply). r .answer) (o .opens))
+open-small m h b = either-way (λ (r : Reply). r .answer < 100) (eqb (opening m h (first-of m h b) .answer) 0) (opening m h (first-of m h b)) (reply b (opening m h (first-of m h b) .answer)) low low
   where
     low : opening m h (first-of m h b) .answer < 100
     low = ⊎-elim (λ e. omega arith) (λ e. omega arith) (demand1 (first-of m h b) .opening-answers m h)
 
-    by : (t : Bool) → a ≡ cond t (opening m h (first-of m h b)) (reply b (opening m h (first-of m h b) .answer)) .answer → a < 100
-    by true e = omega (arith, low)
-    by false e = omega (arith, low)
+pub opens-small : (m h : ℕ) (b b1 : Box) (a : ℕ) → Opens m h b b1 a → a < 100
+opens-small m h b b1 a o = omega (arith, ap (λ (r : Reply). r .answer) (o .opens), open-small m h b)
 
 pub starts-open : (last : Bool) (bs o o1 : List ℕ) (b b1 : Box) (p p1 : Place) (m h k a n : ℕ) → 3 ≤ length o → StartAt bs m h k → Opens m h b b1 a → (o1 ≡ sets o 0 (line a)) × (n ≡ 0 + length (line a)) → p1 ≡ begun-at a → ComesTo bs o o1 b b1 p1 k n false (begin-piece last (length o) p bs b)
 unfolding begun

@@ -102,9 +102,6 @@ groups-end (fifth {b} {bs} p q) = behind-first b bs bs (at-end-all bs)
 groups-end (last {b = b} {bs = bs} p q) = behind-first b bs bs (at-end-all bs)
 groups-end (next {b = b} {bs = bs} {rest = rest} p g) = behind-first b bs rest (at-end bs rest (groups-end g))
 
-pub groups-behind : (k : ℕ) (bs : List ℕ) (n : ℕ) (rest : List ℕ) → more-groups k bs ≡ found n rest → Behind bs rest
-groups-behind k bs n rest e = groups-end (groups-view k bs n rest e)
-
 groups-below : {k n : ℕ} {bs rest : List ℕ} → AllBytes bs → Groups k bs n rest → n < 16 * 128 ^ k
 groups-below all (fifth p q) = omega arith
 groups-below all (last {k} p q) = omega (arith, pow-succ' 128 k, one-le-pow k 128 (omega arith))
@@ -322,17 +319,11 @@ number-all-more (b ∷ bs) more f = go (ltb b 128) f
     go false f = ap (before (b - 128)) (groups-and 3 bs more (λ e. f (before-cut (b - 128) (more-groups 3 bs) e))) ∙ before-and (b - 128) more (more-groups 3 bs)
 
 -- another answer than the end of the string is no end of the string
-other-refused : (x : Number) (a : ℕ) → x ≡ refused a → (a ≡ cut → ⊥) → x ≡ refused cut → ⊥
-other-refused x a e f g = f (cc)
-
 found-not-cut : (x : Number) (n : ℕ) (rest : List ℕ) → x ≡ found n rest → x ≡ refused cut → ⊥
 found-not-cut x n rest e g = refused-not-found (sym g ∙ e)
 
 pub number-more : (bs more : List ℕ) (n : ℕ) (rest : List ℕ) → number bs ≡ found n rest → number (bs ++ more) ≡ found n (rest ++ more)
 number-more bs more n rest e = number-all-more bs more (found-not-cut (number bs) n rest e) ∙ ap (number-and more) e
-
-pub number-refused-more : (bs more : List ℕ) (a : ℕ) → number bs ≡ refused a → (a ≡ cut → ⊥) → number (bs ++ more) ≡ refused a
-number-refused-more bs more a e f = number-all-more bs more (other-refused (number bs) a e f) ∙ ap (number-and more) e
 
 -- the same of fields
 
