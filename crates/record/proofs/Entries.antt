@@ -1,5 +1,5 @@
 -- A field, a record and the head of a string at a place of the lent bytes, as the code meets them. Assumes nothing.
-use Prim.Native.Nat.{ℕ, zero, suc, _+_, _-_, _≤_, _<_}
+use Prim.Native.Nat.{ℕ, _+_, _-_, _≤_, _<_}
 use mathlib.Core.List.{List, [], _∷_}
 use mathlib.Core.Option.{Option, none, some}
 use mathlib.Core.Path.{_≡_, refl, sym, ap, _∙_}
@@ -10,9 +10,9 @@ use borrow.Author.Tests.{le-leb, lt-leb, ne-eqb}
 use Rattle.record.specs.declared.number.Number as code
 use Rattle.record.specs.declared.number.Number.the-variants.{Found, Refused}
 use Rattle.record.specs.declared.entry.Entry.{Entry}
-use Rattle.record.specs.declared.entry.Entry.the-variants.{Faulty}
+use Rattle.record.specs.declared.entry.Entry.the-variants.{Whole, Faulty}
 use Rattle.record.specs.Number.{Number, found, refused, number, unknown, too-large}
-use Rattle.record.specs.Fields.{whole, fault, joined, within, field, fields, named, entry, row, kinds, editions}
+use Rattle.record.specs.Fields.{whole, fault, joined, within, field, fields, named, entry, editions}
 use Rattle.record.specs.Found.{place-of, as-number, refusal-of, as-entry}
 use Rattle.record.proofs.Laws.{Behind, number-behind, field-behind, fields-found, fields-refused, entry-found, entry-refused}
 
@@ -79,38 +79,26 @@ pub no-fields : (bs : List ℕ) → fields [] bs ≡ whole [] bs
 unfolding fields
 no-fields bs = refl
 
--- what a number names
-pub named-some : (table : ℕ → Option (List ℕ)) (k n : ℕ) (ls bs : List ℕ) → k ≡ n → table n ≡ some ls → named (table k) k bs ≡ joined k (fields ls bs)
-unfolding named
-named-some table k n ls bs e h = rw (ap table e ∙ h)
+-- ---- what the code makes of two fields
 
-pub named-none : (table : ℕ → Option (List ℕ)) (k : ℕ) (bs : List ℕ) → table k ≡ none → named (table k) k bs ≡ fault unknown
-unfolding named
-named-none table k bs h = rw h
+module _ (bs : List ℕ) (at k l m : ℕ) (r s : code.Number) (e : r ≡ as-number (length bs) (field l (drop at bs))) (n second : ℕ) (u : r ≡ Found n second) (f : s ≡ as-number (length bs) (field m (drop second bs))) where
+  pub two-refused : (a : ℕ) → s ≡ Refused a → (x : ℕ) → x ≡ refusal-of s → Faulty x ≡ as-entry (length bs) (joined k (fields (l ∷ m ∷ []) (drop at bs)))
+  unfolding joined
+  two-refused a v x y = rw (y, first-found bs at r l (m ∷ []) e n second u, first-refused bs second s m [] f a v)
 
--- what the code makes of a number that the table knows, and of one that it does not
-pub entry-known : (bs : List ℕ) (at : ℕ) (r : code.Number) (table : ℕ → Option (List ℕ)) → r ≡ as-number (length bs) (number (drop at bs)) → (n next : ℕ) → r ≡ Found n next → (k : ℕ) (ls : List ℕ) → n ≡ k → table k ≡ some ls → (x : Entry) → x ≡ as-entry (length bs) (joined n (fields ls (drop next bs))) → x ≡ as-entry (length bs) (entry table (drop at bs))
-entry-known bs at r table e n next u k ls h t x y = rw (entry-named bs at r table e n next u, named-some table n k ls (drop next bs) h t) y
+  pub two-whole : (b next : ℕ) → s ≡ Found b next → Whole k n b 0 next ≡ as-entry (length bs) (joined k (fields (l ∷ m ∷ []) (drop at bs)))
+  unfolding joined
+  two-whole b next v = rw (first-found bs at r l (m ∷ []) e n second u, first-found bs second s m [] f b next v, no-fields (drop next bs), place-back bs (field m (drop second bs)) s f b next v)
+
+-- ---- what it makes of a number that a table knows, and of one that it does not
+
+pub entry-known : (bs : List ℕ) (at : ℕ) (r : code.Number) (table : ℕ → Option (List ℕ)) → r ≡ as-number (length bs) (number (drop at bs)) → (n next : ℕ) → r ≡ Found n next → (ls : List ℕ) → table n ≡ some ls → (x : Entry) → x ≡ as-entry (length bs) (joined n (fields ls (drop next bs))) → x ≡ as-entry (length bs) (entry table (drop at bs))
+unfolding named
+entry-known bs at r table e n next u ls t x y = rw (entry-named bs at r table e n next u, t) y
 
 pub entry-unknown : (bs : List ℕ) (at : ℕ) (r : code.Number) (table : ℕ → Option (List ℕ)) → r ≡ as-number (length bs) (number (drop at bs)) → (n next : ℕ) → r ≡ Found n next → table n ≡ none → Faulty unknown ≡ as-entry (length bs) (entry table (drop at bs))
-entry-unknown bs at r table e n next u t = rw (entry-named bs at r table e n next u, named-none table n (drop next bs) t)
-
--- a number that is none of the kinds
-pub no-kind : (k : ℕ) → (k ≡ 0 → ⊥) → (k ≡ 1 → ⊥) → (k ≡ 2 → ⊥) → (k ≡ 3 → ⊥) → (k ≡ 4 → ⊥) → (k ≡ 5 → ⊥) → (k ≡ 6 → ⊥) → (k ≡ 7 → ⊥) → (k ≡ 8 → ⊥) → (k ≡ 9 → ⊥) → (k ≡ 10 → ⊥) → (k ≡ 11 → ⊥) → kinds k ≡ none
-unfolding kinds row
-no-kind zero n0 n1 n2 n3 n4 n5 n6 n7 n8 n9 n10 n11 = absurd (n0 refl)
-no-kind (suc zero) n0 n1 n2 n3 n4 n5 n6 n7 n8 n9 n10 n11 = absurd (n1 refl)
-no-kind (suc (suc zero)) n0 n1 n2 n3 n4 n5 n6 n7 n8 n9 n10 n11 = absurd (n2 refl)
-no-kind (suc (suc (suc zero))) n0 n1 n2 n3 n4 n5 n6 n7 n8 n9 n10 n11 = absurd (n3 refl)
-no-kind (suc (suc (suc (suc zero)))) n0 n1 n2 n3 n4 n5 n6 n7 n8 n9 n10 n11 = absurd (n4 refl)
-no-kind (suc (suc (suc (suc (suc zero))))) n0 n1 n2 n3 n4 n5 n6 n7 n8 n9 n10 n11 = absurd (n5 refl)
-no-kind (suc (suc (suc (suc (suc (suc zero)))))) n0 n1 n2 n3 n4 n5 n6 n7 n8 n9 n10 n11 = absurd (n6 refl)
-no-kind (suc (suc (suc (suc (suc (suc (suc zero))))))) n0 n1 n2 n3 n4 n5 n6 n7 n8 n9 n10 n11 = absurd (n7 refl)
-no-kind (suc (suc (suc (suc (suc (suc (suc (suc zero)))))))) n0 n1 n2 n3 n4 n5 n6 n7 n8 n9 n10 n11 = absurd (n8 refl)
-no-kind (suc (suc (suc (suc (suc (suc (suc (suc (suc zero))))))))) n0 n1 n2 n3 n4 n5 n6 n7 n8 n9 n10 n11 = absurd (n9 refl)
-no-kind (suc (suc (suc (suc (suc (suc (suc (suc (suc (suc zero)))))))))) n0 n1 n2 n3 n4 n5 n6 n7 n8 n9 n10 n11 = absurd (n10 refl)
-no-kind (suc (suc (suc (suc (suc (suc (suc (suc (suc (suc (suc zero))))))))))) n0 n1 n2 n3 n4 n5 n6 n7 n8 n9 n10 n11 = absurd (n11 refl)
-no-kind (suc (suc (suc (suc (suc (suc (suc (suc (suc (suc (suc (suc k)))))))))))) n0 n1 n2 n3 n4 n5 n6 n7 n8 n9 n10 n11 = refl
+unfolding named
+entry-unknown bs at r table e n next u t = rw (entry-named bs at r table e n next u, t)
 
 -- there is one edition
 pub no-edition : (e : ℕ) → (e ≡ 1 → ⊥) → editions e ≡ none

@@ -2,6 +2,7 @@ pub mod Requests
 pub mod Laws
 pub mod Groups
 pub mod Entries
+pub mod KindTable
 pub mod Refusals
 pub mod Rounds
 pub mod Strings

@@ -1,13 +1,14 @@
 -- What the code's reader hands on: a place in the lent bytes stands for the bytes behind it.
 use Prim.Native.Nat.{ℕ, _-_}
 use mathlib.Core.List.{List}
+use mathlib.Core.Option.{Option, none, some}
 use lib.ListN.{length, getD}
 use Rattle.record.specs.declared.number.Number as code
 use Rattle.record.specs.declared.number.Number.the-variants.{Found, Refused}
 use Rattle.record.specs.declared.entry.Entry.{Entry}
 use Rattle.record.specs.declared.entry.Entry.the-variants.{Whole, Faulty}
 use Rattle.record.specs.Number as rules
-use Rattle.record.specs.Fields.{Item, whole, fault}
+use Rattle.record.specs.Fields.{most16, Item, whole, fault}
 
 -- the place behind what was read, in bytes of which there are so many
 abbrev pub place-of : ℕ → List ℕ → ℕ
@@ -31,3 +32,13 @@ as-entry n (fault a) = Faulty a
 abbrev pub fault-of : Entry → ℕ
 fault-of (Whole k a b c at) = 0
 fault-of (Faulty a) = a
+
+-- how many fields a kind has, from its row of the table
+abbrev pub fields-in : Option (List ℕ) → ℕ
+fields-in none = 0
+fields-in (some ls) = length ls
+
+-- the limit of the last of them; 16 bits where there is none
+abbrev pub last-in : Option (List ℕ) → ℕ
+last-in none = most16
+last-in (some ls) = getD ls (length ls - 1) most16

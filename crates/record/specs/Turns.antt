@@ -2,16 +2,12 @@
 use Prim.Native.Nat.{ℕ, suc, _+_, _-_, _≤_, _<_}
 use mathlib.Core.Bool.{false, cond}
 use mathlib.Core.List.{List, _++_}
-use mathlib.Core.Option.{Option, none, some}
 use mathlib.Core.Path.{_≡_}
 use lib.ListN.{length, take, drop}
 use Rattle.record.specs.declared.reading.Turn.{Turn}
 use Rattle.record.specs.Fields.{kinds}
+use Rattle.record.specs.Found.{fields-in}
 use Rattle.record.specs.Reading.{Reading, records, all-numbers}
-
-abbrev pub fields-in : Option (List ℕ) → ℕ
-fields-in none = 0
-fields-in (some ls) = length ls
 
 -- how many numbers a record of a kind has, the kind among them
 unfoldable pub size-of : ℕ → ℕ

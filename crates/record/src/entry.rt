@@ -6,7 +6,7 @@ ghost use mathlib.Core.List.{[], _∷_};
 ghost use mathlib.Core.Path.{_≡_};
 ghost use lib.ListN.{length, drop};
 ghost use Rattle.record.specs.Fields.{most16, joined, field, fields, kinds, editions, entry};
-ghost use Rattle.record.specs.Found.{as-number, as-entry, fault-of};
+ghost use Rattle.record.specs.Found.{as-number, as-entry, fault-of, fields-in, last-in};
 
 // What was read whole: a kind or an edition, its fields, 0 for those that it does not have, and the place behind it; or what refuses it.
 pub enum Entry {
@@ -118,6 +118,28 @@ pub fn fault_of(e: Entry) -> u32
     }
 }
 
+// How many fields a kind has; 0 for a kind that there is not.
+fn fields_of(kind: u32) -> u32
+    ensures { λ r. ⌜ r ≡ fields-in (kinds kind) ⌝ }
+{
+    match kind {
+        0 | 2 | 11 => 1,
+        1 | 3 | 4 | 8 | 9 => 2,
+        5 | 6 | 7 | 10 => 3,
+        _ => 0,
+    }
+}
+
+// The limit of a kind's last field. Those before it have 16 bits.
+fn limit_of(kind: u32) -> u32
+    ensures { λ r. ⌜ r ≡ last-in (kinds kind) ⌝ }
+{
+    match kind {
+        0 | 1 | 11 => MOST_32,
+        _ => MOST_16,
+    }
+}
+
 // The record that begins at `at`, or kind 0 and the count at the end: 20 and 21 as a number, 22 for an unknown kind, 23 for a field that
 // is too large for its kind.
 pub fn record_at(bytes: &[u8], at: usize) -> Entry
@@ -127,20 +149,37 @@ pub fn record_at(bytes: &[u8], at: usize) -> Entry
     let Number::Found(kind, next) = n else {
         return Entry::Faulty(refusal(n));
     };
-    match kind {
-        0 => one(bytes, next, kind, MOST_32),
-        1 => two(bytes, next, kind, MOST_32),
-        2 => one(bytes, next, kind, MOST_16),
-        3 => two(bytes, next, kind, MOST_16),
-        4 => two(bytes, next, kind, MOST_16),
-        5 => three(bytes, next, kind),
-        6 => three(bytes, next, kind),
-        7 => three(bytes, next, kind),
-        8 => two(bytes, next, kind, MOST_16),
-        9 => two(bytes, next, kind, MOST_16),
-        10 => three(bytes, next, kind),
-        11 => one(bytes, next, kind, MOST_32),
-        _ => Entry::Faulty(22),
+    let many = fields_of(kind);
+    if many == 2 {
+        return two(bytes, next, kind, limit_of(kind));
+    }
+    if many == 3 {
+        return three(bytes, next, kind);
+    }
+    if many == 1 {
+        return one(bytes, next, kind, limit_of(kind));
+    }
+    Entry::Faulty(22)
+}
+
+// M and H, behind the edition. That this is not `two` keeps each of `one`, `two` and `three` in one place of the compiled reader.
+fn sizes(bytes: &[u8], at: usize, edition: u32) -> Entry
+    ensures { λ r. ⌜ r ≡ as-entry (length (now (bytes .entry))) (joined edition (fields (most16 ∷ most16 ∷ []) (drop at (now (bytes .entry))))) ⌝ }
+{
+    let n = field_at(bytes, at, MOST_16);
+    let Number::Found(m, second) = n else {
+        return Entry::Faulty(refusal(n));
+    };
+    let l = field_at(bytes, second, MOST_16);
+    let Number::Found(h, next) = l else {
+        return Entry::Faulty(refusal(l));
+    };
+    Entry::Whole {
+        kind: edition,
+        a: m,
+        b: h,
+        c: 0,
+        next,
     }
 }
 
@@ -153,7 +192,7 @@ pub fn head_of(bytes: &[u8]) -> Entry
         return Entry::Faulty(refusal(n));
     };
     if edition == 1 {
-        return two(bytes, next, edition, MOST_16);
+        return sizes(bytes, next, edition);
     }
     Entry::Faulty(22)
 }

@@ -1,6 +1,5 @@
 -- `head_of` meets its contract: there is one edition. Assumes nothing.
 use mathlib.Core.List.{[], _∷_}
-use mathlib.Core.Path.{refl}
 use denote.Ref.{now}
 use Rattle.record.specs.Fields.{most16, editions}
 use Rattle.record.proofs.Entries.{entry-none, entry-known, entry-unknown, no-edition}
@@ -23,12 +22,12 @@ refusal-requires c κs = search needs
 returns : tie.Need-returns
 returns c = rw (c .refusal .ensures, entry-none (now (c .before .before .before .before .before .args .bytes)) 0 (c .before .before .before .number-at .result) editions (c .before .before .before .number-at .ensures) (c .before .enum-told .given .0 .0) (c .before .enum-told .given .1))
 
-two-requires : tie.Need-two-requires
-two-requires c κs = search needs
+sizes-requires : tie.Need-sizes-requires
+sizes-requires c κs = search needs
 
 returns-2 : tie.Need-returns-2
 unfolding editions
-returns-2 c = entry-known (now (c .before .before .before .before .before .before .before .args .bytes)) 0 (c .before .before .before .before .before .number-at .result) editions (c .before .before .before .before .before .number-at .ensures) (c .before .before .before .n .given .0 .0) (c .before .before .before .n .given .0 .1 .0) (c .before .before .before .n .given .1) 1 (most16 ∷ most16 ∷ []) (c .before .if1 .taken) refl (c .two .result) (c .two .ensures)
+returns-2 c = entry-known (now (c .before .before .before .before .before .before .before .args .bytes)) 0 (c .before .before .before .before .before .number-at .result) editions (c .before .before .before .before .before .number-at .ensures) (c .before .before .before .n .given .0 .0) (c .before .before .before .n .given .0 .1 .0) (c .before .before .before .n .given .1) (most16 ∷ most16 ∷ []) (rw (c .before .if1 .taken)) (c .sizes .result) (c .sizes .ensures)
 
 returns-3 : tie.Need-returns-3
 returns-3 c = entry-unknown (now (c .before .before .before .before .before .before .args .bytes)) 0 (c .before .before .before .before .number-at .result) editions (c .before .before .before .before .number-at .ensures) (c .before .before .n .given .0 .0) (c .before .before .n .given .0 .1 .0) (c .before .before .n .given .1) (no-edition (c .before .before .n .given .0 .0) (c .if1 .left))
@@ -42,6 +41,6 @@ head-of-spec =
     enum-told
     refusal-requires
     returns
-    two-requires
+    sizes-requires
     returns-2
     returns-3)

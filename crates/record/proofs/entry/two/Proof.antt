@@ -1,9 +1,8 @@
--- `two` meets its contract, by what a field at a place gives. Assumes nothing.
+-- `two` meets its contract, by what the code makes of two fields. Assumes nothing.
 use mathlib.Core.List.{[], _∷_}
-use lib.ListN.{drop}
 use denote.Ref.{now}
-use Rattle.record.specs.Fields.{most16, field, joined}
-use Rattle.record.proofs.Entries.{first-found, first-refused, place-back, no-fields}
+use Rattle.record.specs.Fields.{most16, joined}
+use Rattle.record.proofs.Entries.{first-refused, two-refused, two-whole}
 use borrow.Author.Needs.{needs}
 use Rattle.record.proofs.entry.two.Statement.{statement}
 use Rattle.record.proofs.entry.two.Tie as tie
@@ -22,7 +21,7 @@ refusal-requires c κs = search needs
 
 returns : tie.Need-returns
 unfolding joined
-returns c = rw (c .refusal .ensures, first-refused (now (c .before .before .before .before .before .args .bytes)) (c .before .before .before .before .before .args .at) (c .before .before .before .field-at .result) (most16) (c .before .before .before .before .before .args .limit ∷ []) (c .before .before .before .field-at .ensures) (c .before .enum-told .given .0 .0) (c .before .enum-told .given .1))
+returns c = rw (c .refusal .ensures, first-refused (now (c .before .before .before .before .before .args .bytes)) (c .before .before .before .before .before .args .at) (c .before .before .before .field-at .result) most16 (c .before .before .before .before .before .args .limit ∷ []) (c .before .before .before .field-at .ensures) (c .before .enum-told .given .0 .0) (c .before .enum-told .given .1))
 
 field-at-requires-2 : tie.Need-field-at-requires-2
 field-at-requires-2 c κs = search needs
@@ -37,12 +36,16 @@ refusal-requires-2 : tie.Need-refusal-requires-2
 refusal-requires-2 c κs = search needs
 
 returns-2 : tie.Need-returns-2
-unfolding joined
-returns-2 c = rw (c .refusal2 .ensures, first-found (now (c .before .before .before .before .before .before .before .before .before .args .bytes)) (c .before .before .before .before .before .before .before .before .before .args .at) (c .before .before .before .before .before .before .before .field-at .result) (most16) (c .before .before .before .before .before .before .before .before .before .args .limit ∷ []) (c .before .before .before .before .before .before .before .field-at .ensures) (c .before .before .before .before .before .n .given .0 .0) (c .before .before .before .before .before .n .given .0 .1 .0) (c .before .before .before .before .before .n .given .1), first-refused (now (c .before .before .before .before .before .before .before .before .before .args .bytes)) (c .before .before .before .before .before .n .given .0 .1 .0) (c .before .before .before .field-at2 .result) (c .before .before .before .before .before .before .before .before .before .args .limit) ([]) (c .before .before .before .field-at2 .ensures) (c .before .enum-told2 .given .0 .0) (c .before .enum-told2 .given .1))
+returns-2 c =
+    let a = c .before .before .before .before .before .before .before .before .before .args in
+    let n = c .before .before .before .before .before .n .given in
+    two-refused (now (a .bytes)) (a .at) (a .kind) most16 (a .limit) _ _ (c .before .before .before .before .before .before .before .field-at .ensures) _ _ (n .1) (c .before .before .before .field-at2 .ensures) _ (c .before .enum-told2 .given .1) _ (c .refusal2 .ensures)
 
 returns-3 : tie.Need-returns-3
-unfolding joined
-returns-3 c = rw (first-found (now (c .before .before .before .before .before .before .before .before .before .args .bytes)) (c .before .before .before .before .before .before .before .before .before .args .at) (c .before .before .before .before .before .before .before .field-at .result) (most16) (c .before .before .before .before .before .before .before .before .before .args .limit ∷ []) (c .before .before .before .before .before .before .before .field-at .ensures) (c .before .before .before .before .before .n .given .0 .0) (c .before .before .before .before .before .n .given .0 .1 .0) (c .before .before .before .before .before .n .given .1), first-found (now (c .before .before .before .before .before .before .before .before .before .args .bytes)) (c .before .before .before .before .before .n .given .0 .1 .0) (c .before .before .before .field-at2 .result) (c .before .before .before .before .before .before .before .before .before .args .limit) ([]) (c .before .before .before .field-at2 .ensures) (c .before .m .given .0 .0) (c .before .m .given .0 .1 .0) (c .before .m .given .1), no-fields (drop (c .before .m .given .0 .1 .0) (now (c .before .before .before .before .before .before .before .before .before .args .bytes))), place-back (now (c .before .before .before .before .before .before .before .before .before .args .bytes)) (field (c .before .before .before .before .before .before .before .before .before .args .limit) (drop (c .before .before .before .before .before .n .given .0 .1 .0) (now (c .before .before .before .before .before .before .before .before .before .args .bytes)))) (c .before .before .before .field-at2 .result) (c .before .before .before .field-at2 .ensures) (c .before .m .given .0 .0) (c .before .m .given .0 .1 .0) (c .before .m .given .1))
+returns-3 c =
+    let a = c .before .before .before .before .before .before .before .before .before .args in
+    let n = c .before .before .before .before .before .n .given in
+    two-whole (now (a .bytes)) (a .at) (a .kind) most16 (a .limit) _ _ (c .before .before .before .before .before .before .before .field-at .ensures) _ _ (n .1) (c .before .before .before .field-at2 .ensures) _ _ (c .before .m .given .1)
 
 pub two-spec : {M : Type 1} → statement M
 two-spec =

@@ -1,7 +1,7 @@
--- `size_of` meets its contract: the table of kinds computes at each of its numbers. Assumes nothing.
+-- `size_of` meets its contract: the table of kinds computes at each of its numbers, and has no more. Assumes nothing.
 use Rattle.record.specs.Fields.{row, kinds}
 use Rattle.record.specs.Turns.{size-of}
-use Rattle.record.proofs.Entries.{no-kind}
+use Rattle.record.proofs.KindTable.{none-of-these}
 use Rattle.record.proofs.reading.size_of.Statement.{statement}
 use Rattle.record.proofs.reading.size_of.Tie as tie
 
@@ -55,7 +55,7 @@ returns-12 c = rw (c .match .keys12)
 
 returns-13 : tie.Need-returns-13
 unfolding size-of
-returns-13 c = rw (no-kind (c .before .args .kind) (c .match .rest .0 .0 .0 .0 .0 .0 .0 .0 .0 .0 .0 .1) (c .match .rest .0 .0 .0 .0 .0 .0 .0 .0 .0 .0 .1) (c .match .rest .0 .0 .0 .0 .0 .0 .0 .0 .0 .1) (c .match .rest .0 .0 .0 .0 .0 .0 .0 .0 .1) (c .match .rest .0 .0 .0 .0 .0 .0 .0 .1) (c .match .rest .0 .0 .0 .0 .0 .0 .1) (c .match .rest .0 .0 .0 .0 .0 .1) (c .match .rest .0 .0 .0 .0 .1) (c .match .rest .0 .0 .0 .1) (c .match .rest .0 .0 .1) (c .match .rest .0 .1) (c .match .rest .1))
+returns-13 c = let r = c .match .rest in rw (none-of-these (c .before .args .kind) (r .0 .0 .0 .0 .0 .0 .0 .0 .0 .0 .0 .1, (r .0 .0 .0 .0 .0 .0 .0 .0 .0 .0 .1, (r .0 .0 .0 .0 .0 .0 .0 .0 .0 .1, (r .0 .0 .0 .0 .0 .0 .0 .0 .1, (r .0 .0 .0 .0 .0 .0 .0 .1, (r .0 .0 .0 .0 .0 .0 .1, (r .0 .0 .0 .0 .0 .1, (r .0 .0 .0 .0 .1, (r .0 .0 .0 .1, (r .0 .0 .1, (r .0 .1, (r .1, tt)))))))))))))
 
 pub size-of-spec : {M : Type 1} → statement M
 size-of-spec =
