@@ -351,10 +351,12 @@ module _ (b : Box) where
 lengths-in : Outline → Bool
 lengths-in o = in-range (o .m) (o .h) && (eqb (o .words) (o .m) && eqb (o .flags) (o .m) && eqb (o .addresses) (o .h) && eqb (o .sizes) (o .h) && eqb (o .links) (o .h) && eqb (o .marks) (o .h) && eqb (o .deeps) (o .h))
 
-pub step-sound : (b : Box) → sound b ≡ true → sound (step b .box) ≡ true
+pub keeps-sound : (b c : Box) → Keeps b c → sound b ≡ true → sound c ≡ true
 unfolding sound right-sizes lengths-are lengths-in
-step-sound b e =
-    let k = step-keeps b in
+keeps-sound b c k e =
     let r : lengths-in (outline b) ≡ true = and-left (right-sizes (b .m) (b .h) b) _ e in
     let p : b .collector .phase ≤ 8 = leb-true _ _ (and-right (right-sizes (b .m) (b .h) b) _ e) in
-    ap₂ (λ (x y : Bool). x && y) (ap lengths-in (k .outline-same) ∙ r) (le-leb (step b .box .collector .phase) 8 (k .phase-low p))
+    ap₂ (λ (x y : Bool). x && y) (ap lengths-in (k .outline-same) ∙ r) (le-leb (c .collector .phase) 8 (k .phase-low p))
+
+pub step-sound : (b : Box) → sound b ≡ true → sound (step b .box) ≡ true
+step-sound b e = keeps-sound b (step b .box) (step-keeps b) e

@@ -1,6 +1,7 @@
 pub mod Sizes
 pub mod AsFound
 pub mod Kept
+pub mod Sound
 pub mod Runs
 pub mod View
 pub mod Table
