@@ -20,7 +20,7 @@ ghost use Rattle.rules.specs.declared.kinds.Request.the-variants.{Getm, Store};
 ghost use Rattle.rules.specs.Parts.{Box};
 ghost use Rattle.rules.specs.Box.{reply, sound};
 ghost use Rattle.rules.specs.Request.{is-register, registers-right, carry-out, request};
-ghost use Rattle.lent.specs.Lent.{state-of, lent, HasLengths};
+ghost use Rattle.lent.specs.Lent.{state-of, lent};
 
 // Whether two numbers are registers.
 fn both(r: u16, s: u16) -> bool
@@ -109,34 +109,10 @@ fn carry_out(
 
 // What refuses a request before its kind is looked at: 9 where the box is not sound, 1 for a register above 7, 6 while a request is
 // held. 0 where nothing does.
-fn refusal(
-    q: Request,
-    m: u32,
-    h: u32,
-    phase: u32,
-    held: bool,
-    words: usize,
-    flags: usize,
-    addresses: usize,
-    sizes: usize,
-    links: usize,
-    marks: usize,
-    deeps: usize,
-) -> u32
-    ensures { λ r. ⌜ ((b : Box) → b .m ≡ m → b .h ≡ h → b .collector .phase ≡ phase → b .hold .held ≡ held → HasLengths b words flags addresses sizes links marks deeps → r ≡ cond (sound b) (cond (registers-right q) (cond (b .hold .held) 6 0) 1) 9) ⌝ }
+fn refusal(q: Request, right: bool, held: bool) -> u32
+    ensures { λ r. ⌜ ((b : Box) → sound b ≡ right → b .hold .held ≡ held → r ≡ cond (sound b) (cond (registers-right q) (cond (b .hold .held) 6 0) 1) 9) ⌝ }
 {
-    if sound(
-        m,
-        h,
-        phase,
-        words,
-        flags,
-        addresses,
-        sizes,
-        links,
-        marks,
-        deeps,
-    ) {
+    if right {
         if registers_right(q) {
             if held {
                 return 6;
@@ -148,9 +124,10 @@ fn refusal(
     9
 }
 
-// One request. Answers 9 where the box is not sound, 1 for a register above 7, 6 while a request is held, and otherwise as its kind
-// does; every refusal leaves all as it was found.
-pub fn request(
+// One request of a box of which it is known whether it is sound. One who asks several in a row, and lends the box to nobody between
+// them, tests that once: a request leaves it as it is.
+pub fn requested(
+    right: bool,
     q: Request,
     numbers: &mut [u32; 22],
     switches: &mut [bool; 11],
@@ -163,22 +140,10 @@ pub fn request(
     marks: &mut [bool],
     deeps: &mut [bool],
 ) -> u32
+    requires { ⌜ sound (lent (now numbers) (now switches) (now hold) (now words) (now flags) (now addresses) (now sizes) (now links) (now marks) (now deeps)) ≡ right ⌝ }
     ensures { λ a. ⌜ reply (lent (now (numbers .exit)) (now (switches .exit)) (now (hold .exit)) (now (words .exit)) (now (flags .exit)) (now (addresses .exit)) (now (sizes .exit)) (now (links .exit)) (now (marks .exit)) (now (deeps .exit))) a ≡ request q (lent (now (numbers .entry)) (now (switches .entry)) (now (hold .entry)) (now (words .entry)) (now (flags .entry)) (now (addresses .entry)) (now (sizes .entry)) (now (links .entry)) (now (marks .entry)) (now (deeps .entry))) ⌝ }
 {
-    let refused = refusal(
-        q,
-        numbers[0],
-        numbers[1],
-        numbers[4],
-        switches[9],
-        words.len(),
-        flags.len(),
-        addresses.len(),
-        sizes.len(),
-        links.len(),
-        marks.len(),
-        deeps.len(),
-    );
+    let refused = refusal(q, right, switches[9]);
     if refused != 0 {
         return refused;
     }
@@ -215,4 +180,49 @@ pub fn request(
         ),
         _ => carry_out(q, numbers, switches, hold, words, flags, addresses, sizes),
     }
+}
+
+// One request. Answers 9 where the box is not sound, 1 for a register above 7, 6 while a request is held, and otherwise as its kind
+// does; every refusal leaves all as it was found.
+pub fn request(
+    q: Request,
+    numbers: &mut [u32; 22],
+    switches: &mut [bool; 11],
+    hold: &mut [u16; 3],
+    words: &mut [u32],
+    flags: &mut [bool],
+    addresses: &mut [u32],
+    sizes: &mut [u32],
+    links: &mut [u32],
+    marks: &mut [bool],
+    deeps: &mut [bool],
+) -> u32
+    ensures { λ a. ⌜ reply (lent (now (numbers .exit)) (now (switches .exit)) (now (hold .exit)) (now (words .exit)) (now (flags .exit)) (now (addresses .exit)) (now (sizes .exit)) (now (links .exit)) (now (marks .exit)) (now (deeps .exit))) a ≡ request q (lent (now (numbers .entry)) (now (switches .entry)) (now (hold .entry)) (now (words .entry)) (now (flags .entry)) (now (addresses .entry)) (now (sizes .entry)) (now (links .entry)) (now (marks .entry)) (now (deeps .entry))) ⌝ }
+{
+    let right = sound(
+        numbers[0],
+        numbers[1],
+        numbers[4],
+        words.len(),
+        flags.len(),
+        addresses.len(),
+        sizes.len(),
+        links.len(),
+        marks.len(),
+        deeps.len(),
+    );
+    requested(
+        right,
+        q,
+        numbers,
+        switches,
+        hold,
+        words,
+        flags,
+        addresses,
+        sizes,
+        links,
+        marks,
+        deeps,
+    )
 }

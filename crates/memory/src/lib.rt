@@ -7,6 +7,7 @@ mod fill;
 mod opening;
 
 pub use asking::request;
+pub use asking::requested;
 pub use opening::open;
 pub use steps::Ran;
 pub use steps::run;

@@ -5,3 +5,4 @@ mod stepping;
 pub use running::Ran;
 pub use running::run;
 pub use stepping::step;
+pub use stepping::stepped;

@@ -11,7 +11,7 @@ ghost use Rattle.lent.specs.Lent.{lent};
 ghost use Rattle.steps.specs.Stretch.{stretch};
 
 // One step of a sound box: the rule of its phase, and the tuple of a held request that it grants.
-fn stepped(
+pub fn stepped(
     numbers: &mut [u32; 22],
     switches: &mut [bool; 11],
     hold: &[u16; 3],
