@@ -12,10 +12,11 @@ use lib.ListN.{length, getD, drop, length-append, length-drop}
 use lib.Seq.{sets, length-sets, drop-drop}
 use Rattle.rules.specs.declared.kinds.Request.{Request}
 use Rattle.rules.specs.Parts.{Box}
-use Rattle.rules.specs.Box.{Reply, reply}
+use Rattle.rules.specs.Box.{Reply, reply, sound}
 use Rattle.rules.specs.Request as rules-request
-use Rattle.rules.specs.Collector.{step}
 use Rattle.rules.proofs.Demand1.{demand1}
+use Rattle.rules.proofs.Sound.{request-sound, step-same-sound}
+use Rattle.record.specs.Number.{bytes-after}
 use Rattle.record.specs.Fields.{Item, whole, fault, kinds, entry}
 use Rattle.record.specs.Reading.{is-end, nothing-behind}
 use Rattle.record.specs.Requests.{request-of}
@@ -28,11 +29,12 @@ use Rattle.pieces.specs.declared.place.Deed.the-variants.{Say, Step, Ask, Silen
 use Rattle.pieces.specs.declared.moves.Move as code
 use Rattle.pieces.specs.declared.moves.Move.the-variants.{Go, Wait}
 use Rattle.pieces.specs.Text.{line, text}
-use Rattle.pieces.specs.Pieces.{playing, Move, go, wait, may-come, refuse, finish, asked, play-now, take-record, next-record, go-on, look-behind, next, carry-out, printed, at-end as end-stage, Piece, lines-before, room-behind, play-piece}
+use Rattle.pieces.specs.Pieces.{playing, ended, Move, go, wait, may-come, refuse, finish, asked, play-now, take-record, next-record, go-on, look-behind, next, carry-out, printed, at-end as end-stage, Piece, lines-before, room-behind, play-piece}
 use Rattle.pieces.specs.Moves.{as-move}
 use Rattle.turns.specs.Outcome.{Outcome, leaves, outcome, rest-of, Turned}
-use borrow.Author.Tests.{ltb-true, ltb-false}
+use borrow.Author.Tests.{ltb-true, ltb-false, le-ltb, eqb-true, eqb-false}
 use Rattle.pieces.proofs.Lines.{line-one, line-two, sets-more}
+use Rattle.pieces.proofs.Choices.{something-behind, none-behind}
 use Rattle.pieces.proofs.Turns.{either, goes-less, piece-full, piece-waits, piece-goes}
 
 -- ---- a deed that is done and printed
@@ -41,10 +43,6 @@ pub carried-say : (d : Deed) (a : ℕ) (b : Box) → d ≡ Say a → reply b a �
 unfolding carry-out
 carried-say d a b e = rw e
 
-pub carried-step : (d : Deed) (b : Box) (r : Reply) → d ≡ Step → r ≡ step b → r ≡ carry-out d b
-unfolding carry-out
-carried-step d b r e h = rw e h
-
 pub carried-ask : (d : Deed) (q : Request) (b : Box) (r : Reply) → d ≡ Ask q → r ≡ rules-request.request q b → r ≡ carry-out d b
 unfolding carry-out
 carried-ask d q b r e h = rw e h
@@ -52,6 +50,14 @@ carried-ask d q b r e h = rw e h
 pub carried-silent : (d : Deed) (b : Box) → d ≡ Silent → reply b 0 ≡ carry-out d b
 unfolding carry-out
 carried-silent d b e = rw e
+
+-- no deed makes a box sound or unsound
+pub carried-sound : (d : Deed) (b : Box) → sound (carry-out d b .box) ≡ sound b
+unfolding carry-out
+carried-sound (Say a) b = refl
+carried-sound Step b = step-same-sound b
+carried-sound (Ask q) b = request-sound q b
+carried-sound Silent b = refl
 
 text-one : (a : ℕ) → text (a ∷ []) ≡ line a
 unfolding text
@@ -110,6 +116,45 @@ pub next-fair : (last : Bool) (p : Place) (bs : List ℕ) → Fair bs (next last
 unfolding next go-on look-behind
 next-fair last p bs = either (Fair bs) (ltb (p .stage) end-stage) _ _ (λ e. either (Fair bs) (eqb (p .left) 0) _ _ (λ l. record-fair last p bs) (λ l. (at-end-all bs, tt))) (λ e. either (Fair bs) (eqb (p .stage) end-stage) _ _ (λ a. either (Fair bs) (nothing-behind bs) _ _ (λ n. tt) (λ n. (at-end-all bs, omega arith))) (λ a. tt))
 
+-- ---- with no steps left, none is done
+
+abbrev NoStep : Move → Type 0
+NoStep (go d q rest) = d ≡ Step → ⊥
+NoStep wait = Unit {0}
+
+say-no-step : (a : ℕ) → Say a ≡ Step → ⊥
+say-no-step a e = let w : _≡_ {A = ℕ} 0 1 = cc in omega arith
+
+silent-no-step : Silent ≡ Step → ⊥
+silent-no-step e = let w : _≡_ {A = ℕ} 0 1 = cc in omega arith
+
+asked-no-step : (o : Option Request) → asked o ≡ Step → ⊥
+unfolding asked
+asked-no-step none e = silent-no-step e
+asked-no-step (some q) e = let w : _≡_ {A = ℕ} 0 1 = cc in omega arith
+
+take-no-step : (p : Place) (ns rest : List ℕ) → NoStep (take-record p ns rest)
+unfolding take-record finish play-now
+take-no-step p ns rest = either NoStep (is-end ns) _ _ (λ z. either NoStep (eqb (getD ns 1 0) (p .count)) _ _ (λ c. silent-no-step) (λ c. say-no-step _)) (λ z. either NoStep (eqb (p .stage) playing) _ _ (λ s. either NoStep (eqb (getD ns 0 0) 11) _ _ (λ k. silent-no-step) (λ k. asked-no-step (request-of (getD ns 0 0) (getD ns 1 0) (getD ns 2 0) (getD ns 3 0)))) (λ s. silent-no-step))
+
+record-no-step : (last : Bool) (p : Place) (bs : List ℕ) → NoStep (next-record last p bs)
+unfolding next-record refuse
+record-no-step last p bs = of (entry kinds bs) refl
+  where
+    of : (x : Item) → entry kinds bs ≡ x → NoStep (next-record last p bs)
+    of (whole ns rest) e = rw (e, next-record, NoStep) (take-no-step p ns rest)
+    of (fault a) e = rw (e, next-record, NoStep) (either NoStep (may-come last a) _ _ (λ m. tt) (λ m. say-no-step a))
+
+next-no-step : (last : Bool) (p : Place) (bs : List ℕ) → p .left ≡ 0 → NoStep (next last p bs)
+unfolding next go-on look-behind
+next-no-step last p bs h =
+    either NoStep (ltb (p .stage) end-stage) _ _
+    (λ e. either NoStep (eqb (p .left) 0) _ _ (λ l. record-no-step last p bs) (λ l. absurd (eqb-false (p .left) 0 l h)))
+    (λ e. either NoStep (eqb (p .stage) end-stage) _ _ (λ a. either NoStep (nothing-behind bs) _ _ (λ n. tt) (λ n. say-no-step _)) (λ a. tt))
+
+pub no-step : (last : Bool) (p : Place) (bs : List ℕ) → p .left ≡ 0 → (d : Deed) (q : Place) (rest : List ℕ) → next last p bs ≡ go d q rest → d ≡ Step → ⊥
+no-step last p bs h d q rest e = subst NoStep e (next-no-step last p bs h)
+
 -- every answer is below 100
 pub answer-small : (d : Deed) (b : Box) → Small d → carry-out d b .answer < 100
 unfolding carry-out
@@ -149,11 +194,11 @@ move-waits last p n bs (go d q rest) i m e u = let z : Go d q (place-of n rest) 
 
 pub turn-full : (last : Bool) (bs o : List ℕ) (b : Box) (p : Place) (k n : ℕ) → k ≤ length bs → n ≤ length o → length o - n < 3 → Turned last bs o o b b p p k k n n false false
 unfolding rest-of
-turn-full last bs o b p k n h i j = record { comes-to = rw (piece-full last (length o - n) p (drop k bs) b j); bytes-in = h; room-in = i; never-more = omega arith; falls = λ e. absurd (let w : _≡_ {A = ℕ} 0 1 = cc in omega arith) }
+turn-full last bs o b p k n h i j = record { comes-to = rw (piece-full last (length o - n) p (drop k bs) b j); bytes-in = h; room-in = i; never-more = omega arith; falls = λ e. absurd (let w : _≡_ {A = ℕ} 0 1 = cc in omega arith); sound-same = refl }
 
 pub turn-waits : (last : Bool) (bs o : List ℕ) (b : Box) (p : Place) (k n : ℕ) → k ≤ length bs → n ≤ length o → 3 ≤ length o - n → next last p (drop k bs) ≡ wait → Turned last bs o o b b p p k k n n false true
 unfolding rest-of
-turn-waits last bs o b p k n h i j e = record { comes-to = rw (piece-waits last (length o - n) p (drop k bs) b j e); bytes-in = h; room-in = i; never-more = omega arith; falls = λ e. absurd (let w : _≡_ {A = ℕ} 0 1 = cc in omega arith) }
+turn-waits last bs o b p k n h i j e = record { comes-to = rw (piece-waits last (length o - n) p (drop k bs) b j e); bytes-in = h; room-in = i; never-more = omega arith; falls = λ e. absurd (let w : _≡_ {A = ℕ} 0 1 = cc in omega arith); sound-same = refl }
 
 pub text-append : (xs ys : List ℕ) → text (xs ++ ys) ≡ text xs ++ text ys
 unfolding text
@@ -172,7 +217,7 @@ outcome-more o n xs r =
     let f : n + length (text xs) + length (text (r .lines)) ≡ n + length (text (xs ++ r .lines)) = omega (arith, ap length (text-append xs (r .lines)), length-append (text xs) (text (r .lines))) in
     rw (e, f)
 
-outcome-then : (o o1 : List ℕ) (n n1 : ℕ) (xs : List ℕ) (r x : Piece) → o1 ≡ sets o n (text xs) → n1 ≡ n + length (text xs) → x ≡ lines-before xs r → outcome o1 n1 r ≡ outcome o n x
+pub outcome-then : (o o1 : List ℕ) (n n1 : ℕ) (xs : List ℕ) (r x : Piece) → o1 ≡ sets o n (text xs) → n1 ≡ n + length (text xs) → x ≡ lines-before xs r → outcome o1 n1 r ≡ outcome o n x
 outcome-then o o1 n n1 xs r x e f g = rw (e, f, g) (outcome-more o n xs r)
 
 -- a line of an answer below 100 has at most three characters
@@ -201,7 +246,27 @@ turn-goes last bs o o1 b b1 p q k k1 n n1 d a h i j m c w =
     let room : length o1 - n1 ≡ room-behind (printed d a) (length o - n) = omega (arith, room-behind-text (printed d a) (length o - n), w .1) in
     let less : length (drop k1 bs) + room-behind (printed d a) (length o - n) < length (drop k bs) + (length o - n) = goes-less last p (drop k bs) d q (drop k1 bs) (m .is) a (length o - n) (omega arith) in
     let whole : play-piece last (length o - n) p (drop k bs) b ≡ lines-before (printed d a) (play-piece last (length o1 - n1) q (drop k1 bs) b1) = rw (room, ans, left) (piece-goes last (length o - n) p (drop k bs) b j (m .is)) in
-    record { comes-to = outcome-then o o1 n n1 (printed d a) (play-piece last (length o1 - n1) q (drop k1 bs) b1) (play-piece last (length o - n) p (drop k bs) b) (w .0) (w .1) whole; bytes-in = m .inside; room-in = omega (arith, w .1); never-more = omega (arith, length-drop k1 bs, length-drop k bs, m .inside); falls = λ e. omega (arith, length-drop k1 bs, length-drop k bs, m .inside) }
+    record { comes-to = outcome-then o o1 n n1 (printed d a) (play-piece last (length o1 - n1) q (drop k1 bs) b1) (play-piece last (length o - n) p (drop k bs) b) (w .0) (w .1) whole; bytes-in = m .inside; room-in = omega (arith, w .1); never-more = omega (arith, length-drop k1 bs, length-drop k bs, m .inside); falls = λ e. omega (arith, length-drop k1 bs, length-drop k bs, m .inside); sound-same = ap sound left ∙ carried-sound d b }
+
+-- ---- after the end, and after a refusal
+
+module _ (last : Bool) (bs o : List ℕ) (b : Box) (p : Place) (k n : ℕ) (h : k ≤ length bs) (r : n + 3 ≤ length o) where
+  pub turn-behind : (o1 : List ℕ) (n1 : ℕ) → p .stage ≡ 3 → k < length bs → (o1 ≡ sets o n (line bytes-after)) × (n1 ≡ n + length (line bytes-after)) → Turned last bs o o1 b b p (ended p) k k n n1 true false
+  unfolding next look-behind printed
+  turn-behind o1 n1 s f w =
+      turn-goes last bs o o1 b b p (ended p) k k n n1 (Say bytes-after) bytes-after h (omega arith) (omega arith)
+      (record { is = is; inside = h; small = omega arith }) (carried-say (Say bytes-after) bytes-after b refl) (printed-say o o1 n n1 bytes-after w (Say bytes-after) bytes-after refl)
+    where
+      is : next last p (drop k bs) ≡ go (Say bytes-after) (ended p) (drop k bs)
+      is = simp (s, something-behind bs k f)
+
+  pub turn-over : 3 ≤ p .stage → (p .stage ≡ 3 → length bs ≤ k) → Turned last bs o o b b p p k k n n false true
+  unfolding next look-behind
+  turn-over s f = turn-waits last bs o b p k n h (omega arith) (omega arith) (by (eqb (p .stage) 3) refl)
+    where
+      by : (t : Bool) → eqb (p .stage) 3 ≡ t → next last p (drop k bs) ≡ wait
+      by true e = simp (le-ltb (p .stage) 3 s, e, none-behind bs k (f (eqb-true (p .stage) 3 e)))
+      by false e = simp (le-ltb (p .stage) 3 s, e)
 
 -- ---- all turns
 

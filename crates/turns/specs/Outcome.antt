@@ -7,7 +7,9 @@ use mathlib.Core.Path.{_≡_}
 use lib.ListN.{length, drop}
 use lib.Seq.{sets}
 use Rattle.rules.specs.Parts.{Box}
+use Rattle.rules.specs.Box.{sound}
 use Rattle.pieces.specs.declared.place.Place.{Place}
+use Rattle.pieces.specs.Lines.{play-steps}
 use Rattle.pieces.specs.Text.{text}
 use Rattle.pieces.specs.Pieces.{Piece, piece, play-piece}
 
@@ -28,6 +30,12 @@ outcome o n r = leaves (sets o n (text (r .lines))) (n + length (text (r .lines)
 
 -- ---- one turn of a piece
 
+-- so many single steps were done, and their answers are lines of the output
+pub record Stepped (many : ℕ) (o o1 : List ℕ) (b b1 : Box) (n n1 : ℕ) : Type 0 where
+  pub box-is : b1 ≡ play-steps many b .box
+  pub out-is : o1 ≡ sets o n (text (play-steps many b .lines))
+  pub end-is : n1 ≡ n + length (text (play-steps many b .lines))
+
 -- what is left to be played after a turn: all that follows, or nothing
 unfoldable pub rest-of : Bool → Bool → Bool → ℕ → Place → List ℕ → Box → Piece
 rest-of going waits last room p bs b = cond going (play-piece last room p bs b) (piece [] b p bs waits)
@@ -36,10 +44,11 @@ rest-of going waits last room p bs b = cond going (play-piece last room p bs b) 
 abbrev pub to-go : List ℕ → ℕ → List ℕ → ℕ → ℕ
 to-go bs k o n = (length bs - k) + (length o - n)
 
--- a turn comes to what all turns come to, and each takes a byte or room
+-- a turn comes to what all turns come to, each takes a byte or room, and none makes a box sound or unsound
 pub record Turned (last : Bool) (bs o o1 : List ℕ) (b b1 : Box) (p p1 : Place) (k k1 n n1 : ℕ) (going waits : Bool) : Type 0 where
   pub comes-to : outcome o1 n1 (rest-of going waits last (length o1 - n1) p1 (drop k1 bs) b1) ≡ outcome o n (play-piece last (length o - n) p (drop k bs) b)
   pub bytes-in : k1 ≤ length bs
   pub room-in : n1 ≤ length o1
   pub never-more : to-go bs k1 o1 n1 ≤ to-go bs k o n
   pub falls : going ≡ true → to-go bs k1 o1 n1 < to-go bs k o n
+  pub sound-same : sound b1 ≡ sound b
