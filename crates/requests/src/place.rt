@@ -1,4 +1,4 @@
-// Where a word of a tuple is (document 01), and reading and writing it there.
+// Where a word of a tuple is (document 01), and reading it there.
 use collector::State;
 use collector::Word;
 ghost use mathlib.Core.Bool.{Bool};
@@ -7,7 +7,7 @@ ghost use mathlib.Core.Path.{_≡_};
 ghost use Prim.Native.Nat.{ℕ, _+_, _<_};
 ghost use lib.ListN.{length};
 ghost use Rattle.rules.specs.Parts.{Registers, Box};
-ghost use Rattle.rules.specs.Place.{being-moved, place, in-memory, read, write};
+ghost use Rattle.rules.specs.Place.{being-moved, place, in-memory, read};
 ghost use Rattle.collector.specs.Boxed.{boxed, word-of};
 ghost use Rattle.requests.specs.Found.{place-of, Within};
 
@@ -88,24 +88,5 @@ pub(crate) fn read(s: State, p: Place, words: &[u32], flags: &[bool]) -> Word
             bits: words[a],
             flag: flags[a],
         },
-    }
-}
-
-// Puts a word at a place.
-pub(crate) fn write(mut s: State, p: Place, w: Word, words: &mut [u32], flags: &mut [bool]) -> State
-    requires { ⌜ (length (now words) ≡ s .m) × (length (now flags) ≡ s .m) × Within p (s .m) ⌝ }
-    ensures { λ r. ⌜ ((q : Registers) (ads ss ls : List ℕ) (ms ds : List Bool) → boxed q (now (words .exit)) (now (flags .exit)) ads ss ls ms ds r ≡ write (place-of p) (word-of w) (boxed q (now (words .entry)) (now (flags .entry)) ads ss ls ms ds s)) ⌝ }
-{
-    match p {
-        Place::Copy => {
-            s.copy = w.bits;
-            s.copy_flag = w.flag;
-            s
-        }
-        Place::At(a) => {
-            words[a] = w.bits;
-            flags[a] = w.flag;
-            s
-        }
     }
 }
