@@ -64,16 +64,14 @@ impl State {
         ensures { λ r. ⌜ Grants (self .m) (self .h) (r .state) (r .answer) ⌝ }
     {
         if there {
+            let mut answer: u32 = 9;
             if self.can_shade(h, sizes, marks) {
                 self = self.shade(h, sizes, links, marks, deeps);
-                return Answered {
-                    state: self,
-                    answer: 30,
-                };
+                answer = 30;
             }
             return Answered {
                 state: self,
-                answer: 9,
+                answer,
             };
         }
         self.end_marking(words, flags)

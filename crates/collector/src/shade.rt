@@ -45,7 +45,8 @@ impl State {
         sizes[i] < m - live
     }
 
-    // Shades tuple h: unmarked, it is marked, counted in live and, if deep, put at the head of the next list.
+    // Shades tuple h: unmarked, it is marked, counted in live and, if deep, put at the head of the next list. It has one way out, so that
+    // the compiler keeps the state in registers.
     pub fn shade(
         mut self,
         h: u32,
@@ -58,18 +59,16 @@ impl State {
         ensures { λ r. ⌜ ((q : Registers) (ws : List ℕ) (fs : List Bool) (ads : List ℕ) → boxed q ws fs ads (now (sizes .entry)) (now (links .exit)) (now (marks .exit)) (now (deeps .entry)) r ≡ shade h (boxed q ws fs ads (now (sizes .entry)) (now (links .entry)) (now (marks .entry)) (now (deeps .entry)) self)) ⌝ }
     {
         let i = h as usize;
-        if marks[i] {
-            return self;
-        }
-        let next = self.next;
-        let live = self.live;
-        let size = sizes[i];
-        marks[i] = true;
-        self.live = live + size + 1;
-        if deeps[i] {
-            links[i] = next;
-            self.next = h;
-            return self;
+        if !marks[i] {
+            let next = self.next;
+            let live = self.live;
+            let size = sizes[i];
+            marks[i] = true;
+            self.live = live + size + 1;
+            if deeps[i] {
+                links[i] = next;
+                self.next = h;
+            }
         }
         self
     }

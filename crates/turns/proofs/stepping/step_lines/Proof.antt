@@ -28,8 +28,8 @@ loop-holds c = let a = c .before .before .before .before .before .before .before
 one-step-requires : tie.Need-one-step-requires Inv-loop μ-loop
 one-step-requires c κs = c .before .before .before .before .before .before .before .before .before .before .loop .inv .8
 
-put-line-requires : tie.Need-put-line-requires Inv-loop μ-loop
-put-line-requires c κs = let a = c .before .before .before .before .before .before .before .before .before .before .before .before .before .before .before .before .before .before .before .before .before .before .before .before .before .before .before .before .before .before .before .before .before .before .before .args in let v = c .before .before .before .before .before .before .before .before .before .before .before .before .before .before .before .before .before .before .before .before .before .before .before .before .before .before .loop in let x : Box = (lent (v .numbers) (v .switches) (now (a .hold)) (v .words) (v .flags) (v .addresses) (v .sizes) (v .links) (v .marks) (v .deeps)) in let y : Box = (lent (c .before .before .before .before .before .before .before .before .before .before .before .before .before .before .before .one-step .last .1 .0) (c .before .before .before .before .before .before .before .before .before .before .before .before .before .before .before .one-step .last .1 .1 .0) (now (a .hold)) (c .before .before .before .before .before .before .before .before .before .before .before .before .before .before .before .one-step .last .1 .1 .1 .1 .0) (c .before .before .before .before .before .before .before .before .before .before .before .before .before .before .before .one-step .last .1 .1 .1 .1 .1 .0) (c .before .before .before .before .before .before .before .before .before .before .before .before .before .before .before .one-step .last .1 .1 .1 .1 .1 .1 .0) (c .before .before .before .before .before .before .before .before .before .before .before .before .before .before .before .one-step .last .1 .1 .1 .1 .1 .1 .1 .0) (c .before .before .before .before .before .before .before .before .before .before .before .before .before .before .before .one-step .last .1 .1 .1 .1 .1 .1 .1 .1 .0) (c .before .before .before .before .before .before .before .before .before .before .before .before .before .before .before .one-step .last .1 .1 .1 .1 .1 .1 .1 .1 .1 .0) (c .before .before .before .before .before .before .before .before .before .before .before .before .before .before .before .one-step .last .1 .1 .1 .1 .1 .1 .1 .1 .1 .1 .0)) in let e = c .before .before .before .before .before .before .before .before .before .before .before .before .before .before .before .one-step .ensures in (stepped-small x y (c .before .before .before .before .before .before .before .before .before .before .before .before .before .before .before .one-step .result) e, omega (arith, v .inv .9, c .before .before .before .before .before .before .before .before .before .before .before .before .before .before .before .before .before .before .before .before .before .before .before .before .before .loop-test .taken))
+put-answer-requires : tie.Need-put-answer-requires Inv-loop μ-loop
+put-answer-requires c κs = let a = c .before .before .before .before .before .before .before .before .before .before .before .before .before .before .before .before .before .before .before .before .before .before .before .before .before .before .before .before .before .before .before .before .before .before .before .args in let v = c .before .before .before .before .before .before .before .before .before .before .before .before .before .before .before .before .before .before .before .before .before .before .before .before .before .before .loop in let x : Box = (lent (v .numbers) (v .switches) (now (a .hold)) (v .words) (v .flags) (v .addresses) (v .sizes) (v .links) (v .marks) (v .deeps)) in let y : Box = (lent (c .before .before .before .before .before .before .before .before .before .before .before .before .before .before .before .one-step .last .1 .0) (c .before .before .before .before .before .before .before .before .before .before .before .before .before .before .before .one-step .last .1 .1 .0) (now (a .hold)) (c .before .before .before .before .before .before .before .before .before .before .before .before .before .before .before .one-step .last .1 .1 .1 .1 .0) (c .before .before .before .before .before .before .before .before .before .before .before .before .before .before .before .one-step .last .1 .1 .1 .1 .1 .0) (c .before .before .before .before .before .before .before .before .before .before .before .before .before .before .before .one-step .last .1 .1 .1 .1 .1 .1 .0) (c .before .before .before .before .before .before .before .before .before .before .before .before .before .before .before .one-step .last .1 .1 .1 .1 .1 .1 .1 .0) (c .before .before .before .before .before .before .before .before .before .before .before .before .before .before .before .one-step .last .1 .1 .1 .1 .1 .1 .1 .1 .0) (c .before .before .before .before .before .before .before .before .before .before .before .before .before .before .before .one-step .last .1 .1 .1 .1 .1 .1 .1 .1 .1 .0) (c .before .before .before .before .before .before .before .before .before .before .before .before .before .before .before .one-step .last .1 .1 .1 .1 .1 .1 .1 .1 .1 .1 .0)) in let e = c .before .before .before .before .before .before .before .before .before .before .before .before .before .before .before .one-step .ensures in (stepped-small x y (c .before .before .before .before .before .before .before .before .before .before .before .before .before .before .before .one-step .result) e, omega (arith, v .inv .9, c .before .before .before .before .before .before .before .before .before .before .before .before .before .before .before .before .before .before .before .before .before .before .before .before .before .loop-test .taken))
 
 sub-left : tie.Need-sub-left Inv-loop μ-loop
 sub-left c = c .before .before .before .before .before .before .before .before .before .before .before .before .before .before .before .before .before .before .before .before .before .before .before .before .before .before .before .before .loop-test .taken
@@ -38,7 +38,7 @@ loop-less : tie.Need-loop-less Inv-loop μ-loop
 loop-less c = omega (arith, c .before .before .before .before .before .before .before .before .before .before .before .before .before .before .before .before .before .before .before .before .before .before .before .before .before .before .before .before .loop-test .taken)
 
 loop-again : tie.Need-loop-again Inv-loop μ-loop
-loop-again c = let a = c .before .before .before .before .before .before .before .before .before .before .before .before .before .before .before .before .before .before .before .before .before .before .before .before .before .before .before .before .before .before .before .before .before .before .before .before .before .before .args in let v = c .before .before .before .before .before .before .before .before .before .before .before .before .before .before .before .before .before .before .before .before .before .before .before .before .before .before .before .before .before .loop in let x : Box = (lent (v .numbers) (v .switches) (now (a .hold)) (v .words) (v .flags) (v .addresses) (v .sizes) (v .links) (v .marks) (v .deeps)) in let y : Box = (lent (c .before .before .before .before .before .before .before .before .before .before .before .before .before .before .before .before .before .before .one-step .last .1 .0) (c .before .before .before .before .before .before .before .before .before .before .before .before .before .before .before .before .before .before .one-step .last .1 .1 .0) (now (a .hold)) (c .before .before .before .before .before .before .before .before .before .before .before .before .before .before .before .before .before .before .one-step .last .1 .1 .1 .1 .0) (c .before .before .before .before .before .before .before .before .before .before .before .before .before .before .before .before .before .before .one-step .last .1 .1 .1 .1 .1 .0) (c .before .before .before .before .before .before .before .before .before .before .before .before .before .before .before .before .before .before .one-step .last .1 .1 .1 .1 .1 .1 .0) (c .before .before .before .before .before .before .before .before .before .before .before .before .before .before .before .before .before .before .one-step .last .1 .1 .1 .1 .1 .1 .1 .0) (c .before .before .before .before .before .before .before .before .before .before .before .before .before .before .before .before .before .before .one-step .last .1 .1 .1 .1 .1 .1 .1 .1 .0) (c .before .before .before .before .before .before .before .before .before .before .before .before .before .before .before .before .before .before .one-step .last .1 .1 .1 .1 .1 .1 .1 .1 .1 .0) (c .before .before .before .before .before .before .before .before .before .before .before .before .before .before .before .before .before .before .one-step .last .1 .1 .1 .1 .1 .1 .1 .1 .1 .1 .0)) in let e = c .before .before .before .before .before .before .before .before .before .before .before .before .before .before .before .before .before .before .one-step .ensures in let n = c .before .before .before .before .before .before .before .before .before .before .before .before .before .before .before .before .before .before .one-step .result in let p = c .before .before .put-line .ensures in let t = c .before .before .before .before .before .before .before .before .before .before .before .before .before .before .before .before .before .before .before .before .before .before .before .before .before .before .before .before .loop-test .taken in let out : length (c .before .before .put-line .last .1 .0) ≡ length (v .out) = ap length (p .0) ∙ length-sets (v .out) (v .end) (line n) in (c .before .before .before .before .before .before .before .before .before .before .before .before .before .before .before .before .before .before .one-step .kept .1 .1 .1 .1 .0 ∙ v .inv .0, c .before .before .before .before .before .before .before .before .before .before .before .before .before .before .before .before .before .before .one-step .kept .1 .1 .1 .1 .1 .0 ∙ v .inv .1, c .before .before .before .before .before .before .before .before .before .before .before .before .before .before .before .before .before .before .one-step .kept .1 .1 .1 .1 .1 .1 .0 ∙ v .inv .2, c .before .before .before .before .before .before .before .before .before .before .before .before .before .before .before .before .before .before .one-step .kept .1 .1 .1 .1 .1 .1 .1 .0 ∙ v .inv .3, c .before .before .before .before .before .before .before .before .before .before .before .before .before .before .before .before .before .before .one-step .kept .1 .1 .1 .1 .1 .1 .1 .1 .0 ∙ v .inv .4, c .before .before .before .before .before .before .before .before .before .before .before .before .before .before .before .before .before .before .one-step .kept .1 .1 .1 .1 .1 .1 .1 .1 .1 .0 ∙ v .inv .5, c .before .before .before .before .before .before .before .before .before .before .before .before .before .before .before .before .before .before .one-step .kept .1 .1 .1 .1 .1 .1 .1 .1 .1 .1 .0 ∙ v .inv .6, out ∙ v .inv .7, stepped-same x y n (a .right) e (v .inv .8), omega (arith, p .1, line-short n (stepped-small x y n e), v .inv .9), goes-on (a .many) (now (a .out)) (lent (now (a .numbers)) (now (a .switches)) (now (a .hold)) (now (a .words)) (now (a .flags)) (now (a .addresses)) (now (a .sizes)) (now (a .links)) (now (a .marks)) (now (a .deeps))) (a .at) (v .left) (v .out) (c .before .before .put-line .last .1 .0) x y (v .end) (c .before .before .put-line .result) n t e p (v .inv .10))
+loop-again c = let a = c .before .before .before .before .before .before .before .before .before .before .before .before .before .before .before .before .before .before .before .before .before .before .before .before .before .before .before .before .before .before .before .before .before .before .before .before .before .before .args in let v = c .before .before .before .before .before .before .before .before .before .before .before .before .before .before .before .before .before .before .before .before .before .before .before .before .before .before .before .before .before .loop in let x : Box = (lent (v .numbers) (v .switches) (now (a .hold)) (v .words) (v .flags) (v .addresses) (v .sizes) (v .links) (v .marks) (v .deeps)) in let y : Box = (lent (c .before .before .before .before .before .before .before .before .before .before .before .before .before .before .before .before .before .before .one-step .last .1 .0) (c .before .before .before .before .before .before .before .before .before .before .before .before .before .before .before .before .before .before .one-step .last .1 .1 .0) (now (a .hold)) (c .before .before .before .before .before .before .before .before .before .before .before .before .before .before .before .before .before .before .one-step .last .1 .1 .1 .1 .0) (c .before .before .before .before .before .before .before .before .before .before .before .before .before .before .before .before .before .before .one-step .last .1 .1 .1 .1 .1 .0) (c .before .before .before .before .before .before .before .before .before .before .before .before .before .before .before .before .before .before .one-step .last .1 .1 .1 .1 .1 .1 .0) (c .before .before .before .before .before .before .before .before .before .before .before .before .before .before .before .before .before .before .one-step .last .1 .1 .1 .1 .1 .1 .1 .0) (c .before .before .before .before .before .before .before .before .before .before .before .before .before .before .before .before .before .before .one-step .last .1 .1 .1 .1 .1 .1 .1 .1 .0) (c .before .before .before .before .before .before .before .before .before .before .before .before .before .before .before .before .before .before .one-step .last .1 .1 .1 .1 .1 .1 .1 .1 .1 .0) (c .before .before .before .before .before .before .before .before .before .before .before .before .before .before .before .before .before .before .one-step .last .1 .1 .1 .1 .1 .1 .1 .1 .1 .1 .0)) in let e = c .before .before .before .before .before .before .before .before .before .before .before .before .before .before .before .before .before .before .one-step .ensures in let n = c .before .before .before .before .before .before .before .before .before .before .before .before .before .before .before .before .before .before .one-step .result in let p = c .before .before .put-answer .ensures in let t = c .before .before .before .before .before .before .before .before .before .before .before .before .before .before .before .before .before .before .before .before .before .before .before .before .before .before .before .before .loop-test .taken in let out : length (c .before .before .put-answer .last .1 .0) ≡ length (v .out) = ap length (p .0) ∙ length-sets (v .out) (v .end) (line n) in (c .before .before .before .before .before .before .before .before .before .before .before .before .before .before .before .before .before .before .one-step .kept .1 .1 .1 .1 .0 ∙ v .inv .0, c .before .before .before .before .before .before .before .before .before .before .before .before .before .before .before .before .before .before .one-step .kept .1 .1 .1 .1 .1 .0 ∙ v .inv .1, c .before .before .before .before .before .before .before .before .before .before .before .before .before .before .before .before .before .before .one-step .kept .1 .1 .1 .1 .1 .1 .0 ∙ v .inv .2, c .before .before .before .before .before .before .before .before .before .before .before .before .before .before .before .before .before .before .one-step .kept .1 .1 .1 .1 .1 .1 .1 .0 ∙ v .inv .3, c .before .before .before .before .before .before .before .before .before .before .before .before .before .before .before .before .before .before .one-step .kept .1 .1 .1 .1 .1 .1 .1 .1 .0 ∙ v .inv .4, c .before .before .before .before .before .before .before .before .before .before .before .before .before .before .before .before .before .before .one-step .kept .1 .1 .1 .1 .1 .1 .1 .1 .1 .0 ∙ v .inv .5, c .before .before .before .before .before .before .before .before .before .before .before .before .before .before .before .before .before .before .one-step .kept .1 .1 .1 .1 .1 .1 .1 .1 .1 .1 .0 ∙ v .inv .6, out ∙ v .inv .7, stepped-same x y n (a .right) e (v .inv .8), omega (arith, p .1, line-short n (stepped-small x y n e), v .inv .9), goes-on (a .many) (now (a .out)) (lent (now (a .numbers)) (now (a .switches)) (now (a .hold)) (now (a .words)) (now (a .flags)) (now (a .addresses)) (now (a .sizes)) (now (a .links)) (now (a .marks)) (now (a .deeps))) (a .at) (v .left) (v .out) (c .before .before .put-answer .last .1 .0) x y (v .end) (c .before .before .put-answer .result) n t e p (v .inv .10))
 
 same-length : tie.Need-same-length Inv-loop μ-loop
 same-length c = c .before .loop .inv .0
@@ -75,7 +75,7 @@ step-lines-spec =
     μ-loop
     loop-holds
     one-step-requires
-    put-line-requires
+    put-answer-requires
     sub-left
     loop-less
     loop-again

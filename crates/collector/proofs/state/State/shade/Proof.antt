@@ -1,9 +1,10 @@
 -- `State::shade` equals the definition `shade`: each way through the code is one case of it. That h can be shaded gives the
 -- index and the total their bounds. Assumes nothing.
 use Prim.Native.Nat.{_*_, _^_, _<_}
-use mathlib.Core.Bool.{true}
+use mathlib.Core.Bool.{true, false}
 use mathlib.Core.List.{[]}
 use denote.Ref.{now}
+use borrow.Author.Tests.{not-true, not-false}
 use lib.ListN.{length, getD, length-set}
 use Rattle.rules.specs.Parts.{Box}
 use Rattle.collector.specs.Boxed.{blank, boxed}
@@ -19,13 +20,6 @@ slice-read-if1 c =
     let a = s .args in
     let b : Box = boxed blank [] [] [] (now (a .sizes)) [] (now (a .marks)) [] (a .self) in
     below (a .h) (a .self .h) (length (now (a .marks))) (s .pre .2) (shadable-small (a .h) b (s .pre .5))
-
-returns : tie.Need-returns
-returns c q ws fs ads =
-    let s = c .before .before in
-    let a = s .args in
-    let b : Box = boxed q ws fs ads (now (a .sizes)) (now (a .links)) (now (a .marks)) (now (a .deeps)) (a .self) in
-    shade-marked (a .h) b (c .if1 .taken)
 
 mul-size : tie.Need-mul-size
 mul-size c =
@@ -54,7 +48,7 @@ add-self c =
     let s = c .before .before .before in
     let a = s .args in
     let b : Box = boxed blank [] [] [] (now (a .sizes)) [] (now (a .marks)) [] (a .self) in
-    let t = shadable-total (a .h) b (s .pre .5) (c .before .if1 .left) in
+    let t = shadable-total (a .h) b (s .pre .5) (not-true (getD (now (a .marks)) (a .h) false) (c .before .if1 .taken)) in
     record { fits = sum-fits (a .self .live) (getD (now (a .sizes)) (a .h) 0) (a .self .m) t (s .pre .4) }
 
 add-self-2 : tie.Need-add-self-2
@@ -62,7 +56,7 @@ add-self-2 c =
     let s = c .before .before .before in
     let a = s .args in
     let b : Box = boxed blank [] [] [] (now (a .sizes)) [] (now (a .marks)) [] (a .self) in
-    let t = shadable-total (a .h) b (s .pre .5) (c .before .if1 .left) in
+    let t = shadable-total (a .h) b (s .pre .5) (not-true (getD (now (a .marks)) (a .h) false) (c .before .if1 .taken)) in
     record { fits = total-fits (a .self .live) (getD (now (a .sizes)) (a .h) 0) (a .self .m) t (s .pre .4) }
 
 shared-slice-read-if2 : tie.Need-shared-slice-read-if2
@@ -99,13 +93,13 @@ same-length-2 c =
     let a = s .args in
     length-set (now (a .marks)) (a .h) true
 
-returns-2 : tie.Need-returns-2
+returns : tie.Need-returns
 unfolding list-next mark-live
-returns-2 c q ws fs ads =
+returns c q ws fs ads =
     let s = c .before .before .before .before .before in
     let a = s .args in
     let b : Box = boxed q ws fs ads (now (a .sizes)) (now (a .links)) (now (a .marks)) (now (a .deeps)) (a .self) in
-    shade-deep (a .h) b (c .before .before .before .if1 .left) (c .if2 .taken)
+    shade-deep (a .h) b (not-true (getD (now (a .marks)) (a .h) false) (c .before .before .before .if1 .taken)) (c .if2 .taken)
 
 same-length-3 : tie.Need-same-length-3
 same-length-3 c =
@@ -113,20 +107,26 @@ same-length-3 c =
     let a = s .args in
     length-set (now (a .marks)) (a .h) true
 
-returns-3 : tie.Need-returns-3
+returns-2 : tie.Need-returns-2
 unfolding mark-live
-returns-3 c q ws fs ads =
+returns-2 c q ws fs ads =
     let s = c .before .before .before .before .before in
     let a = s .args in
     let b : Box = boxed q ws fs ads (now (a .sizes)) (now (a .links)) (now (a .marks)) (now (a .deeps)) (a .self) in
-    shade-shallow (a .h) b (c .before .before .before .if1 .left) (c .if2 .left)
+    shade-shallow (a .h) b (not-true (getD (now (a .marks)) (a .h) false) (c .before .before .before .if1 .taken)) (c .if2 .left)
+
+returns-3 : tie.Need-returns-3
+returns-3 c q ws fs ads =
+    let s = c .before .before in
+    let a = s .args in
+    let b : Box = boxed q ws fs ads (now (a .sizes)) (now (a .links)) (now (a .marks)) (now (a .deeps)) (a .self) in
+    shade-marked (a .h) b (not-false (getD (now (a .marks)) (a .h) false) (c .if1 .left))
 
 pub shade-spec : {M : Type 1} → statement M
 shade-spec =
     tie.close
     (tie.spec
     slice-read-if1
-    returns
     mul-size
     shared-slice-read-size
     slice-write-marks
@@ -137,6 +137,7 @@ shade-spec =
     slice-write-links
     same-length
     same-length-2
-    returns-2
+    returns
     same-length-3
+    returns-2
     returns-3)
