@@ -10,6 +10,7 @@ pub mod compare_record;
 pub mod examples;
 pub mod fault;
 pub mod history;
+pub mod plain;
 pub mod playback;
 pub mod player;
 pub mod random;

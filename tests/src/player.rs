@@ -100,6 +100,12 @@ impl Player {
         if !self.sound() {
             return DAMAGED;
         }
+        self.ask(request)
+    }
+
+    /// A request of a sound box. Every call leaves a sound box sound, so that
+    /// one who opened it and lends it to nobody need not test it again.
+    pub fn ask(&mut self, request: Request) -> u32 {
         if request.names_no_register() {
             return NO_REGISTER;
         }
@@ -134,6 +140,11 @@ impl Player {
         if !self.sound() {
             return DAMAGED;
         }
+        self.rule()
+    }
+
+    /// A step of a sound box.
+    pub fn rule(&mut self) -> u32 {
         match self.state.phase {
             0 => self.rest(),
             1 => self.mark_next(),
@@ -154,7 +165,7 @@ impl Player {
             return Ran { answer, steps };
         }
         while steps < budget {
-            let answer = match self.step() {
+            let answer = match self.rule() {
                 DAMAGED => {
                     return Ran {
                         answer: DAMAGED,

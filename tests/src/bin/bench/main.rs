@@ -1,236 +1,177 @@
-//! The C interface's time over the plain player's for the same calls, in one
-//! run and on three loads:
+//! The program `play` against a plain player's program on the same records, and
+//! the C interface against the plain player on the same calls:
 //!
 //!     cargo run --release --bin bench
 //!
-//! Each load is a recorded list of calls. Both play it from an opening, by
-//! turns, several times. A list is timed in short parts, and of each part the
-//! least time counts, so that other work on the machine disturbs little.
-//! Answers and final boxes must be the same. The C interface gets the state as
-//! three lent arrays; the player keeps it in a struct.
+//! Records are grown on the second program. What both programs print must be
+//! its answers, byte for byte, before anything is timed. Ratios are processor
+//! times in one run, the least of several.
 
+mod interface;
+mod loads;
+mod programs;
+
+use std::fs::File;
 use std::process::ExitCode;
-use std::time::{Duration, Instant};
+use std::time::Instant;
 
-use gloamish_tests::call::*;
-use gloamish_tests::capi;
-use gloamish_tests::random::{self, Rng, Style};
-use gloamish_tests::{Lent, Player, Unit};
+use gloamish_tests::plain;
 
-const M: u32 = 8192;
-const H: u32 = 1024;
-const CALLS: usize = 1_000_000;
-/// Calls timed together.
-const PART: usize = 5000;
-const TURNS: u32 = 9;
+use interface::By;
+use loads::{chains, mixed, Load, LARGEST};
+use programs::Files;
 
-/// A list of calls, grown on the second program.
-struct Recorder {
-    unit: Unit,
-    calls: Vec<Call>,
-}
+const MILLION: usize = 1_000_000;
 
-impl Recorder {
-    fn new() -> Recorder {
-        let mut unit = Unit::lent(M, H);
-        unit.open(M, H);
-        let calls = Vec::with_capacity(CALLS);
-        Recorder { unit, calls }
-    }
+/// Boxes from the smallest to the largest.
+const BOXES: [(u32, u32); 5] = [(16, 4), (64, 16), (512, 64), (2048, 256), LARGEST];
 
-    fn request(&mut self, request: Request) -> u32 {
-        self.calls.push(Call::Request(request));
-        self.unit.request(request)
-    }
+/// Something that the two did not agree on.
+type Disagreement = String;
 
-    fn steps(&mut self, count: u32) {
-        for _ in 0..count {
-            self.calls.push(Call::Step);
-            self.unit.step();
-        }
-    }
-
-    fn full(&self) -> bool {
-        self.calls.len() >= CALLS
-    }
-
-    fn finish(mut self) -> Vec<Call> {
-        self.calls.truncate(CALLS);
-        self.calls
+fn check(load: &Load, agree: bool) -> Result<(), Disagreement> {
+    match agree {
+        true => Ok(()),
+        false => Err(format!("{}: they do not agree", load.name)),
     }
 }
 
-/// Requests of every kind on tuples below so many words, with so many steps
-/// after each.
-fn mixed(seed: u64, words: u32, steps: u32) -> Vec<Call> {
-    let mut rng = Rng::new(seed);
-    let mut recorder = Recorder::new();
-    let style = Style {
-        steps: 0,
-        runs: 0,
-        getms: 20,
-        drops: 5,
-        words,
-        registers: 8,
-        // Never held, so that requests and steps stay mixed.
-        careful: 100,
-        hides: 0,
-    };
-    while !recorder.full() {
-        if recorder.unit.state.hold.held {
-            recorder.steps(1);
-            continue;
-        }
-        let request = random::request(&mut rng, &recorder.unit, &style);
-        recorder.request(request);
-        recorder.steps(steps);
-    }
-    recorder.finish()
+/// The least time of printing these answers with the plain player's code.
+fn printing(answers: &[u32]) -> f64 {
+    let times = (0..15).map(|_| {
+        let out = File::create("/dev/null").expect("a place to print to");
+        let start = Instant::now();
+        plain::print(answers, out).expect("what is printed is taken");
+        start.elapsed().as_secs_f64()
+    });
+    times.fold(f64::MAX, f64::min)
 }
 
-/// A queue of small tuples, each pointing to the next: new ones are added at
-/// its end, and once it is long as many are dropped at its start.
-fn chains(steps: u32) -> Vec<Call> {
-    let mut recorder = Recorder::new();
-    let (first, last, new) = (0, 1, 2);
-    let cell = |r| Request::Getm { r, n: 6, tag: 3 };
-    recorder.request(cell(first));
-    recorder.request(Request::Move { r: last, s: first });
-    let mut length = 1;
-    while !recorder.full() {
-        let answer = recorder.request(cell(new));
-        while recorder.unit.state.hold.held {
-            recorder.steps(1);
-        }
-        if answer == DONE || recorder.unit.state.registers[2].pointer {
-            let (r, s) = (new, last);
-            recorder.request(Request::Store { r, s, k: 0 });
-            recorder.request(Request::Move { r: last, s: new });
-            recorder.request(Request::Setd { r: new, v: 0 });
-            length += 1;
-        }
-        recorder.steps(steps);
-        if length > 700 {
-            let (r, s) = (first, first);
-            recorder.request(Request::Load { r, s, k: 0 });
-            length -= 1;
-        }
-    }
-    recorder.finish()
-}
-
-/// The least time of each part of a list, and all answers in one number.
-struct Times {
-    least: Vec<Duration>,
-    answers: u64,
-}
-
-impl Times {
-    fn new(calls: usize) -> Times {
-        let least = vec![Duration::MAX; calls.div_ceil(PART)];
-        Times { least, answers: 0 }
-    }
-
-    /// Plays a list once more.
-    fn turn<T: Copy>(&mut self, calls: &[T], mut play: impl FnMut(T) -> u64) {
-        self.answers = 0;
-        for (part, least) in calls.chunks(PART).zip(&mut self.least) {
-            let start = Instant::now();
-            for &call in part {
-                self.answers = self.answers.rotate_left(5) ^ play(call);
-            }
-            *least = start.elapsed().min(*least);
-        }
-    }
-
-    fn seconds(&self) -> f64 {
-        self.least.iter().sum::<Duration>().as_secs_f64()
-    }
-}
-
-/// The numbers that stand for a step and a run where requests have a kind.
-const STEP: u32 = 0;
-const RUN: u32 = u32::MAX;
-
-/// The same list with steps that follow each other as one run.
-fn as_runs(calls: &[Call]) -> Vec<Call> {
-    let mut list = Vec::new();
-    for &call in calls {
-        match (call, list.last_mut()) {
-            (Call::Step, Some(Call::Run(budget))) => *budget += 1,
-            (Call::Step, _) => list.push(Call::Run(1)),
-            _ => list.push(call),
-        }
-    }
-    list
-}
-
-/// Prints the ratio for one load; false if the two don't agree.
-fn measure(name: &str, calls: &[Call]) -> bool {
-    let numbers: Vec<[u32; 4]> = calls
-        .iter()
-        .map(|&call| match call {
-            Call::Request(request) => capi::numbers(request),
-            Call::Step => [STEP, 0, 0, 0],
-            Call::Run(budget) => [RUN, budget, 0, 0],
-        })
-        .collect();
-    let unit = Unit::lent(M, H);
-    let (mut player, mut lent) = (Player::of(&unit), Lent::of(&unit));
-    let (mut plain, mut through) = (Times::new(calls.len()), Times::new(calls.len()));
-    for _ in 0..TURNS {
-        player.open(M, H);
-        plain.turn(calls, |call| match call {
-            Call::Request(request) => player.request(request).into(),
-            Call::Step => player.step().into(),
-            Call::Run(budget) => {
-                let ran = player.run(budget);
-                u64::from(ran.steps) * 256 + u64::from(ran.answer)
-            }
-        });
-        lent.open(M, H);
-        let mut parts = lent.parts();
-        through.turn(&numbers, |call| match call[0] {
-            STEP => parts.step().into(),
-            RUN => parts.run(call[1]),
-            _ => parts.request(call).into(),
-        });
-        if plain.answers != through.answers || !lent.same(&player.unit()) {
-            println!("{name}: the two do not agree");
-            return false;
-        }
-    }
-    let requests = |call: &&Call| matches!(call, Call::Request(_));
-    let each = |times: &Times| times.seconds() * 1e9 / calls.len() as f64;
+/// Both programs on a record of each load: the ratio; the same with the time of
+/// an empty record taken off; the times; and how many single steps, or requests
+/// where there are no steps, are played a second. Then what reading takes, by
+/// the same record with an opening that is refused, so that it is only read;
+/// and what printing its lines takes the plain player's code.
+fn programs(files: &Files) -> Result<(), Disagreement> {
+    let [start, plain_start] = files.times(&[]);
+    println!("play and the plain player's program, {LARGEST:?}, a million steps");
     println!(
-        "{name}: ratio {:.2} ({} calls, {} of them requests; {:.1} ns a call, player {:.1})",
-        through.seconds() / plain.seconds(),
-        calls.len(),
-        calls.iter().filter(requests).count(),
-        each(&through),
-        each(&plain),
+        "start-up: {:.2} ms, plain {:.2}",
+        start * 1e3,
+        plain_start * 1e3
     );
-    true
+    for load in loads::all(MILLION) {
+        check(&load, files.agree(&load))?;
+        let [ours, plain] = files.times(&load.bytes);
+        let [reads, plain_reads] = files.times(&load.only_read());
+        let prints = printing(&load.answers);
+        let count = match load.steps {
+            0 => load.answers.len() - 1,
+            steps => steps,
+        };
+        let speed = |time: f64| count as f64 / time / 1e6;
+        let share = |part: f64, of: f64| 100.0 * part / of;
+        println!(
+            "{}: ratio {:.2}, without start-up {:.2}; {:.2} ms, plain {:.2}; {:.0} million a second, plain {:.0}",
+            load.name,
+            ours / plain,
+            (ours - start) / (plain - plain_start),
+            ours * 1e3,
+            plain * 1e3,
+            speed(ours),
+            speed(plain),
+        );
+        println!(
+            "    {} bytes read: {:.0} % of the time, plain {:.0} %; {} lines printed: {:.0} %, plain {:.0} %",
+            load.bytes.len(),
+            share(reads - start, ours),
+            share(plain_reads - plain_start, plain),
+            load.answers.len(),
+            share(prints, ours),
+            share(prints, plain),
+        );
+    }
+    Ok(())
+}
+
+/// How the programs' time grows: nanoseconds a line.
+fn grow(files: &Files, what: &str, load: Load) -> Result<(), Disagreement> {
+    check(&load, files.agree(&load))?;
+    let [ours, plain] = files.times(&load.bytes);
+    let each = |time: f64| time * 1e9 / load.answers.len() as f64;
+    println!(
+        "{}, {what}: ratio {:.2}; {:.2} ns a line, plain {:.2}",
+        load.name,
+        ours / plain,
+        each(ours),
+        each(plain)
+    );
+    Ok(())
+}
+
+fn growth(files: &Files) -> Result<(), Disagreement> {
+    println!("the same, by the number of steps");
+    for wanted in [MILLION / 10, MILLION, 10 * MILLION] {
+        let what = format!("{wanted} steps");
+        grow(files, &what, mixed("small tuples", LARGEST, 5, 3, wanted))?;
+        grow(
+            files,
+            &what,
+            mixed("large tuples", LARGEST, 900, 12, wanted),
+        )?;
+        grow(files, &what, chains("long chains", LARGEST, 40, wanted))?;
+    }
+    println!("the same, by the box, a million steps");
+    for size in BOXES {
+        let what = format!("{size:?}");
+        grow(files, &what, mixed("small tuples", size, 5, 3, MILLION))?;
+        grow(files, &what, chains("chains", size, 40, MILLION))?;
+    }
+    Ok(())
+}
+
+/// The C interface on the calls of each load, and of runs of forty steps.
+fn c_interface() -> Result<(), Disagreement> {
+    let time = |load: &Load, by: By, what: &str| -> Result<(), Disagreement> {
+        let times = interface::times(load, by);
+        let [ours, plain] = times.ok_or(format!("{}, {by:?}", load.name))?;
+        let each = |time: f64| time * 1e9 / load.answers.len() as f64;
+        println!(
+            "{}, {what}: ratio {:.2}; {:.1} ns a request or step, plain {:.1}",
+            load.name,
+            ours / plain,
+            each(ours),
+            each(plain)
+        );
+        Ok(())
+    };
+    println!("the C interface and the plain player, {LARGEST:?}, a million steps");
+    for load in loads::all(MILLION) {
+        time(&load, By::SingleCalls, "by single calls")?;
+    }
+    let refused = loads::refused("refused requests", MILLION);
+    time(&refused, By::SingleCalls, "by single calls")?;
+    let loads = [
+        mixed("small tuples", LARGEST, 5, 40, MILLION),
+        mixed("large tuples", LARGEST, 900, 40, MILLION),
+        chains("long chains", LARGEST, 40, MILLION),
+    ];
+    for load in loads {
+        time(&load, By::Runs, "by runs of 40 steps")?;
+    }
+    Ok(())
 }
 
 fn main() -> ExitCode {
-    println!("box {M}, {H}; least of {TURNS} turns each");
-    let loads = [
-        ("small tuples", mixed(41, 5, 3)),
-        ("large tuples", mixed(42, 900, 12)),
-        ("long chains", chains(40)),
-        // Nothing but the cost of a call.
-        (
-            "refused requests",
-            vec![Call::Request(Request::Nil { r: 8 }); CALLS],
-        ),
-    ];
-    let mut agreed = loads.iter().all(|(name, calls)| measure(name, calls));
-    for (name, calls) in &loads[..3] {
-        agreed &= measure(&format!("{name}, steps as runs"), &as_runs(calls));
-    }
-    match agreed {
-        true => ExitCode::SUCCESS,
-        false => ExitCode::FAILURE,
+    let files = Files::new();
+    let done = programs(&files)
+        .and_then(|()| growth(&files))
+        .and_then(|()| c_interface());
+    match done {
+        Ok(()) => ExitCode::SUCCESS,
+        Err(what) => {
+            println!("{what}");
+            ExitCode::FAILURE
+        }
     }
 }
