@@ -7,7 +7,6 @@ mod fill;
 mod opening;
 
 pub use asking::request;
-pub use asking::requested;
 pub use opening::open;
 pub use steps::Ran;
 pub use steps::run;

@@ -1,4 +1,5 @@
 pub mod Accesses
+pub mod Carrying
 pub mod Findings
 pub mod Lending
 pub mod Moves

@@ -32,7 +32,7 @@ fn set_register(r: u16, w: Word, numbers: &mut [u32; 22], switches: &mut [bool; 
 }
 
 // Register r becomes data v. Answers 0.
-pub fn set_data(r: u16, v: u32, numbers: &mut [u32; 22], switches: &mut [bool; 11]) -> u32
+pub(crate) fn set_data(r: u16, v: u32, numbers: &mut [u32; 22], switches: &mut [bool; 11]) -> u32
     requires { ⌜ r < 8 ⌝ }
     ensures { λ a. ⌜ Leaves (now (numbers .entry)) (now (switches .entry)) (now (numbers .exit)) (now (switches .exit)) a (λ b. done (put-register r (data-word v) b)) ⌝ }
 {
@@ -48,7 +48,7 @@ pub fn set_data(r: u16, v: u32, numbers: &mut [u32; 22], switches: &mut [bool; 1
 }
 
 // Register r becomes nil. Answers 0.
-pub fn set_nil(r: u16, numbers: &mut [u32; 22], switches: &mut [bool; 11]) -> u32
+pub(crate) fn set_nil(r: u16, numbers: &mut [u32; 22], switches: &mut [bool; 11]) -> u32
     requires { ⌜ r < 8 ⌝ }
     ensures { λ a. ⌜ Leaves (now (numbers .entry)) (now (switches .entry)) (now (numbers .exit)) (now (switches .exit)) a (λ b. done (put-register r (pointer 0 0) b)) ⌝ }
 {
@@ -64,7 +64,12 @@ pub fn set_nil(r: u16, numbers: &mut [u32; 22], switches: &mut [bool; 11]) -> u3
 }
 
 // Register r becomes what register s holds. Answers 0.
-pub fn move_register(r: u16, s: u16, numbers: &mut [u32; 22], switches: &mut [bool; 11]) -> u32
+pub(crate) fn move_register(
+    r: u16,
+    s: u16,
+    numbers: &mut [u32; 22],
+    switches: &mut [bool; 11],
+) -> u32
     requires { ⌜ (r < 8) × (s < 8) ⌝ }
     ensures { λ a. ⌜ Leaves (now (numbers .entry)) (now (switches .entry)) (now (numbers .exit)) (now (switches .exit)) a (λ b. done (put-register r (register s b) b)) ⌝ }
 {
@@ -73,7 +78,7 @@ pub fn move_register(r: u16, s: u16, numbers: &mut [u32; 22], switches: &mut [bo
 }
 
 // The offset in register r grows by n. Answers 0; 2 for data, 4 past 65,535, and then nothing is changed.
-pub fn advance(r: u16, n: u16, numbers: &mut [u32; 22], switches: &mut [bool; 11]) -> u32
+pub(crate) fn advance(r: u16, n: u16, numbers: &mut [u32; 22], switches: &mut [bool; 11]) -> u32
     requires { ⌜ r < 8 ⌝ }
     ensures { λ a. ⌜ Leaves (now (numbers .entry)) (now (switches .entry)) (now (numbers .exit)) (now (switches .exit)) a (λ b. advance r n b) ⌝ }
 {
@@ -90,7 +95,13 @@ pub fn advance(r: u16, n: u16, numbers: &mut [u32; 22], switches: &mut [bool; 11
 }
 
 // Register r becomes data 1 if s and t are equal in word and flag, otherwise data 0. Answers 0.
-pub fn same(r: u16, s: u16, t: u16, numbers: &mut [u32; 22], switches: &mut [bool; 11]) -> u32
+pub(crate) fn same(
+    r: u16,
+    s: u16,
+    t: u16,
+    numbers: &mut [u32; 22],
+    switches: &mut [bool; 11],
+) -> u32
     requires { ⌜ (r < 8) × (s < 8) × (t < 8) ⌝ }
     ensures { λ a. ⌜ Leaves (now (numbers .entry)) (now (switches .entry)) (now (numbers .exit)) (now (switches .exit)) a (λ b. same r s t b) ⌝ }
 {

@@ -1,19 +1,12 @@
-// The ten requests on the lent parts, each for registers that are 0 to 7 in a sound box.
+// The ten requests on the lent parts, each for registers that are 0 to 7 in a sound box; and any request of a box of which it is known
+// whether it is sound.
 mod access;
 mod data;
 mod find;
+mod order;
 mod place;
 mod reading;
 mod storing;
 mod tuple;
 
-pub use data::advance;
-pub use data::move_register;
-pub use data::same;
-pub use data::set_data;
-pub use data::set_nil;
-pub use reading::load_register;
-pub use reading::size_register;
-pub use reading::tag_register;
-pub use storing::store;
-pub use tuple::getm;
+pub use order::requested;

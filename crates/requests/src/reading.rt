@@ -15,7 +15,7 @@ ghost use Rattle.rules.specs.Request.{load, size, tag};
 ghost use Rattle.lent.specs.Lent.{state-of, lent};
 
 // LOAD: register r takes the word that register s and k name.
-pub fn load_register(
+pub(crate) fn load_register(
     r: u16,
     s: u16,
     k: u16,
@@ -37,7 +37,7 @@ pub fn load_register(
 }
 
 // SIZE: register r becomes the size of the tuple that register s points to.
-pub fn size_register(
+pub(crate) fn size_register(
     r: u16,
     s: u16,
     numbers: &mut [u32; 22],
@@ -54,7 +54,7 @@ pub fn size_register(
 }
 
 // TAG: register r becomes the tag of the tuple that register s points to.
-pub fn tag_register(
+pub(crate) fn tag_register(
     r: u16,
     s: u16,
     numbers: &mut [u32; 22],

@@ -150,7 +150,7 @@ fn store_word(
 }
 
 // STORE: the word that register s and k name takes register r.
-pub fn store(
+pub(crate) fn store(
     r: u16,
     s: u16,
     k: u16,

@@ -31,7 +31,7 @@ fn put_on_hold(
 
 // GETM: a new tuple of n words, and register r points to it. Answers 0; 5 where n + 1 is above M; 7 where there is no room, and then
 // only the hold is set; 9 where it cannot be made.
-pub fn getm(
+pub(crate) fn getm(
     r: u16,
     n: u16,
     tag: u16,

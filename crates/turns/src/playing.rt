@@ -1,12 +1,12 @@
 // A piece of a record, played on the lent parts.
 use crate::stepping::step_lines;
 use lent::sound;
-use memory::requested;
 use pieces::Deed;
 use pieces::Move;
 use pieces::Place;
 use pieces::next_move;
 use pieces::put_line;
+use requests::requested;
 ghost use mathlib.Core.Path.{_≡_};
 ghost use Prim.Native.Nat.{ℕ, _+_, _*_, _<_, _≤_};
 ghost use mathlib.Core.Bool.{Bool};

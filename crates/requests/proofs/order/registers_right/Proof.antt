@@ -1,8 +1,8 @@
 -- `registers_right` meets its contract: by the kinds. Assumes nothing.
 use mathlib.Core.Path.{refl}
-use Rattle.memory.proofs.Carrying.{names-setd, names-nil, names-move, names-advance, names-getm, names-load, names-store, names-size, names-tag, names-same}
-use Rattle.memory.proofs.asking.registers_right.Statement.{statement}
-use Rattle.memory.proofs.asking.registers_right.Tie as tie
+use Rattle.requests.proofs.Carrying.{names-setd, names-nil, names-move, names-advance, names-getm, names-load, names-store, names-size, names-tag, names-same}
+use Rattle.requests.proofs.order.registers_right.Statement.{statement}
+use Rattle.requests.proofs.order.registers_right.Tie as tie
 
 enum-known-q : tie.Need-enum-known-q
 enum-known-q c = c .match .keys1

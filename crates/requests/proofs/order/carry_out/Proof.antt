@@ -2,9 +2,9 @@
 use denote.Ref.{now}
 use Rattle.rules.specs.Parts.{Box}
 use Rattle.lent.specs.Lent.{lent}
-use Rattle.memory.proofs.Carrying.{right-setd, right-nil, right-move, right-advance, right-load, right-size, right-tag, right-same, does-setd, does-nil, does-move, does-advance, does-load, does-size, does-tag, does-same, changed}
-use Rattle.memory.proofs.asking.carry_out.Statement.{statement}
-use Rattle.memory.proofs.asking.carry_out.Tie as tie
+use Rattle.requests.proofs.Carrying.{right-setd, right-nil, right-move, right-advance, right-load, right-size, right-tag, right-same, does-setd, does-nil, does-move, does-advance, does-load, does-size, does-tag, does-same, changed}
+use Rattle.requests.proofs.order.carry_out.Statement.{statement}
+use Rattle.requests.proofs.order.carry_out.Tie as tie
 
 enum-known-q : tie.Need-enum-known-q
 enum-known-q c = c .match .keys1

@@ -1,8 +1,8 @@
 -- `refusal` meets its contract: each return is a case of what refuses a request. Assumes nothing.
 use mathlib.Core.Path.{sym, _∙_}
-use Rattle.memory.proofs.Carrying.{refusal-unsound, refusal-register, refusal-held, refusal-none}
-use Rattle.memory.proofs.asking.refusal.Statement.{statement}
-use Rattle.memory.proofs.asking.refusal.Tie as tie
+use Rattle.requests.proofs.Carrying.{refusal-unsound, refusal-register, refusal-held, refusal-none}
+use Rattle.requests.proofs.order.refusal.Statement.{statement}
+use Rattle.requests.proofs.order.refusal.Tie as tie
 
 registers-right-requires : tie.Need-registers-right-requires
 registers-right-requires c κs = tt

@@ -4,11 +4,11 @@ use denote.Ref.{now}
 use Rattle.rules.specs.Parts.{Box}
 use Rattle.rules.proofs.Sizes.{sound-lengths}
 use Rattle.lent.specs.Lent.{lent}
-use Rattle.memory.proofs.Carrying.{right-getm, right-store, does-getm, does-store, not-getm, not-store, refused, not-refused, carried}
-use Rattle.requests.proofs.Lending.{is-m, is-h, is-phase, is-held}
+use Rattle.requests.proofs.Carrying.{right-getm, right-store, does-getm, does-store, not-getm, not-store, refused, not-refused, carried}
+use Rattle.requests.proofs.Lending.{is-held}
 use borrow.Author.Needs.{needs}
-use Rattle.memory.proofs.asking.requested.Statement.{statement}
-use Rattle.memory.proofs.asking.requested.Tie as tie
+use Rattle.requests.proofs.order.requested.Statement.{statement}
+use Rattle.requests.proofs.order.requested.Tie as tie
 
 element-copy-out-refusal : tie.Need-element-copy-out-refusal
 element-copy-out-refusal c = search needs

@@ -1,7 +1,7 @@
 -- `both` meets its contract: by the test of the first. Assumes nothing.
-use Rattle.memory.proofs.Carrying.{both-left, both-not}
-use Rattle.memory.proofs.asking.both.Statement.{statement}
-use Rattle.memory.proofs.asking.both.Tie as tie
+use Rattle.requests.proofs.Carrying.{both-left, both-not}
+use Rattle.requests.proofs.order.both.Statement.{statement}
+use Rattle.requests.proofs.order.both.Tie as tie
 
 returns : tie.Need-returns
 returns c = both-left (c .before .args .r) (c .before .args .s) (c .if1 .taken)

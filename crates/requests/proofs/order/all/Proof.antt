@@ -1,7 +1,7 @@
 -- `all` meets its contract: by what `both` ensures. Assumes nothing.
 use mathlib.Core.Path.{sym}
-use Rattle.memory.proofs.asking.all.Statement.{statement}
-use Rattle.memory.proofs.asking.all.Tie as tie
+use Rattle.requests.proofs.order.all.Statement.{statement}
+use Rattle.requests.proofs.order.all.Tie as tie
 
 both-requires : tie.Need-both-requires
 both-requires c κs = tt
