@@ -16,9 +16,6 @@ below-room i n m length e l = omega arith
 pub lt-same : (x y k : ℕ) → x ≡ y → y < k → x < k
 lt-same x y k e o = omega arith
 
-pub within-same : (k x y : ℕ) → x ≡ y → k ≤ y → k ≤ x
-within-same k x y e o = omega arith
-
 pub at-most : (length n m : ℕ) → length ≡ n → n ≤ m → length ≤ m
 at-most length n m e l = omega arith
 

@@ -19,13 +19,9 @@ use Rattle.collector.specs.Boxed.{boxed, word-of}
 use Rattle.lent.specs.Lent.{state-of, registers-of, put-in, lent, Leaves}
 use Rattle.requests.specs.Found.{when-got}
 
--- ---- the numbers that a call tests first
+-- ---- numbers that a request tests first
 
 module _ (ns : List ℕ) (sw : List Bool) (hd : List ℕ) where
-  pub is-m : (state-of ns sw hd) .m ≡ getD ns 0 0
-  unfolding state-of
-  is-m = refl
-
   pub is-h : (state-of ns sw hd) .h ≡ getD ns 1 0
   unfolding state-of
   is-h = refl

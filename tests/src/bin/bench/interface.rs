@@ -81,12 +81,16 @@ fn mix(answers: u64, answer: u64) -> u64 {
 }
 
 /// So many steps, by runs: each ends at the end of a cycle or with its budget.
+/// One that does no step is the last.
 fn by_runs(steps: u32, answers: u64, mut run: impl FnMut(u32) -> u64) -> u64 {
     let (mut left, mut answers) = (steps, answers);
     while left > 0 {
         let ran = run(left);
         answers = mix(answers, ran);
-        left -= (ran >> 8) as u32;
+        left = match (ran >> 8) as u32 {
+            0 => 0,
+            done => left.saturating_sub(done),
+        };
     }
     answers
 }
