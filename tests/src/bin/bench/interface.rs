@@ -80,17 +80,14 @@ fn mix(answers: u64, answer: u64) -> u64 {
     answers.rotate_left(5) ^ answer
 }
 
-/// So many steps, by runs: each ends at the end of a cycle or with its budget.
-/// One that does no step is the last.
+/// So many steps, by runs: each ends at the end of a cycle or with its budget,
+/// and in a box that was opened does a step or more.
 fn by_runs(steps: u32, answers: u64, mut run: impl FnMut(u32) -> u64) -> u64 {
     let (mut left, mut answers) = (steps, answers);
     while left > 0 {
         let ran = run(left);
         answers = mix(answers, ran);
-        left = match (ran >> 8) as u32 {
-            0 => 0,
-            done => left.saturating_sub(done),
-        };
+        left -= (ran >> 8) as u32;
     }
     answers
 }
