@@ -14,8 +14,9 @@ use Rattle.record.proofs.Refusals.{either-way}
 use Rattle.pieces.specs.declared.place.Place.{Place}
 use Rattle.pieces.specs.Text.{text}
 use Rattle.pieces.specs.Pieces.{at-start, Move, go, wait, may-come, next, carry-out, printed, Piece, room-behind, play-in, play-piece, begun, not-begun, begin, begin-piece, play-call}
+use Rattle.pieces.proofs.Lines.{line-short}
 use Rattle.pieces.proofs.Turns.{in-full, in-waits, in-goes}
-use Rattle.turns.proofs.Turning.{Fair, next-fair, answer-small, text-append, room-behind-text, line-short, printed-short}
+use Rattle.turns.proofs.Turning.{Fair, next-fair, answer-small, text-append, room-behind-text, printed-short}
 use Rattle.player.proofs.Starting.{fault-small, open-small}
 
 abbrev Fits : ℕ → Piece → Type 0

@@ -31,9 +31,10 @@ use Rattle.pieces.specs.declared.moves.Move.the-variants.{Go, Wait}
 use Rattle.pieces.specs.Text.{line, text}
 use Rattle.pieces.specs.Pieces.{playing, ended, Move, go, wait, may-come, refuse, finish, asked, play-now, take-record, next-record, go-on, look-behind, next, carry-out, printed, at-end as end-stage, Piece, lines-before, room-behind, play-piece}
 use Rattle.pieces.specs.Moves.{as-move}
+use Rattle.trace.proofs.StepLines.{step-small}
 use Rattle.turns.specs.Outcome.{Outcome, leaves, outcome, rest-of, Turned}
-use borrow.Author.Tests.{ltb-true, ltb-false, le-ltb, eqb-true, eqb-false}
-use Rattle.pieces.proofs.Lines.{line-one, line-two, sets-more}
+use borrow.Author.Tests.{le-ltb, eqb-true, eqb-false}
+use Rattle.pieces.proofs.Lines.{line-short, sets-more}
 use Rattle.pieces.proofs.Choices.{something-behind, none-behind}
 use Rattle.pieces.proofs.Turns.{either, goes-less, piece-full, piece-waits, piece-goes}
 
@@ -159,9 +160,13 @@ no-step last p bs h d q rest e = subst NoStep e (next-no-step last p bs h)
 pub answer-small : (d : Deed) (b : Box) → Small d → carry-out d b .answer < 100
 unfolding carry-out
 answer-small (Say a) b h = h
-answer-small Step b h = ⊎-elim (λ e. omega arith) (λ f. ⊎-elim (λ e. omega arith) (λ g. omega arith) f) (demand1 b .step-answers)
+answer-small Step b h = step-small b
 answer-small (Ask q) b h = ⊎-elim (λ e. omega arith) (λ e. omega arith) (demand1 b .request-answers q .numbered)
 answer-small Silent b h = omega arith
+
+-- an answer that the code got
+pub carried-small : (d : Deed) (b b1 : Box) (a : ℕ) → reply b1 a ≡ carry-out d b → Small d → a < 100
+carried-small d b b1 a e h = let f : a ≡ carry-out d b .answer = ap (λ (r : Reply). r .answer) e in omega (arith, answer-small d b h)
 
 -- ---- the move that the code found
 
@@ -220,14 +225,6 @@ outcome-more o n xs r =
 pub outcome-then : (o o1 : List ℕ) (n n1 : ℕ) (xs : List ℕ) (r x : Piece) → o1 ≡ sets o n (text xs) → n1 ≡ n + length (text xs) → x ≡ lines-before xs r → outcome o1 n1 r ≡ outcome o n x
 outcome-then o o1 n n1 xs r x e f g = rw (e, f, g) (outcome-more o n xs r)
 
--- a line of an answer below 100 has at most three characters
-pub line-short : (a : ℕ) → a < 100 → length (line a) ≤ 3
-line-short a h = by (ltb a 10) refl
-  where
-    by : (t : Bool) → ltb a 10 ≡ t → length (line a) ≤ 3
-    by true e = rw (line-one a (ltb-true a 10 e)) (omega arith)
-    by false e = rw (line-two a (ltb-false a 10 e) h) (omega arith)
-
 pub printed-short : (d : Deed) (a : ℕ) → a < 100 → length (text (printed d a)) ≤ 3
 unfolding printed text
 printed-short (Say m) a h = rw append-nil (line-short a h)
@@ -240,7 +237,7 @@ unfolding rest-of
 turn-goes last bs o o1 b b1 p q k k1 n n1 d a h i j m c w =
     let ans : a ≡ carry-out d b .answer = ap (λ (r : Reply). r .answer) c in
     let left : b1 ≡ carry-out d b .box = ap (λ (r : Reply). r .box) c in
-    let small : a < 100 = omega (arith, answer-small d b (m .small)) in
+    let small : a < 100 = carried-small d b b1 a c (m .small) in
     let same : length o1 ≡ length o = ap length (w .0) ∙ length-sets o n (text (printed d a)) in
     let short : length (text (printed d a)) ≤ 3 = printed-short d a small in
     let room : length o1 - n1 ≡ room-behind (printed d a) (length o - n) = omega (arith, room-behind-text (printed d a) (length o - n), w .1) in
@@ -269,6 +266,14 @@ module _ (last : Bool) (bs o : List ℕ) (b : Box) (p : Place) (k n : ℕ) (h : 
       by false e = simp (le-ltb (p .stage) 3 s, e)
 
 -- ---- all turns
+
+-- a turn keeps a length that all turns before it kept
+pub then-long : {A : Type 0} (xs ys zs : List A) → length xs ≡ length ys → length ys ≡ length zs → length xs ≡ length zs
+then-long xs ys zs e f = e ∙ f
+
+-- and whether the box is sound
+pub then-sound : (b b1 : Box) (right : Bool) → sound b1 ≡ sound b → sound b ≡ right → sound b1 ≡ right
+then-sound b b1 right e f = e ∙ f
 
 -- before the first turn everything is to be played, and after the last nothing
 pub begins : (o : List ℕ) (w last : Bool) (p : Place) (bs : List ℕ) (b : Box) → outcome o 0 (rest-of true w last (length o - 0) p bs b) ≡ outcome o 0 (play-piece last (length o) p bs b)

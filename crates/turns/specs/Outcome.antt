@@ -9,7 +9,6 @@ use lib.Seq.{sets}
 use Rattle.rules.specs.Parts.{Box}
 use Rattle.rules.specs.Box.{sound}
 use Rattle.pieces.specs.declared.place.Place.{Place}
-use Rattle.pieces.specs.Lines.{play-steps}
 use Rattle.pieces.specs.Text.{text}
 use Rattle.pieces.specs.Pieces.{Piece, piece, play-piece}
 
@@ -29,12 +28,6 @@ abbrev pub outcome : List ℕ → ℕ → Piece → Outcome
 outcome o n r = leaves (sets o n (text (r .lines))) (n + length (text (r .lines))) (r .box) (r .place) (r .bytes) (r .waits)
 
 -- ---- one turn of a piece
-
--- so many single steps were done, and their answers are lines of the output
-pub record Stepped (many : ℕ) (o o1 : List ℕ) (b b1 : Box) (n n1 : ℕ) : Type 0 where
-  pub box-is : b1 ≡ play-steps many b .box
-  pub out-is : o1 ≡ sets o n (text (play-steps many b .lines))
-  pub end-is : n1 ≡ n + length (text (play-steps many b .lines))
 
 -- what is left to be played after a turn: all that follows, or nothing
 unfoldable pub rest-of : Bool → Bool → Bool → ℕ → Place → List ℕ → Box → Piece

@@ -1,7 +1,6 @@
 // The opening of a part of the lent columns; and the next thing to do, done on the lent parts, turn by turn.
 mod opening;
 mod playing;
-mod stepping;
 
 pub use opening::open_first;
 pub use opening::part;

@@ -1,5 +1,4 @@
 // A piece of a record, played on the lent parts.
-use crate::stepping::step_lines;
 use lent::sound;
 use pieces::Deed;
 use pieces::Move;
@@ -7,6 +6,7 @@ use pieces::Place;
 use pieces::next_move;
 use pieces::put_line;
 use requests::requested;
+use trace::step_lines;
 ghost use mathlib.Core.Path.{_≡_};
 ghost use Prim.Native.Nat.{ℕ, _+_, _*_, _<_, _≤_};
 ghost use mathlib.Core.Bool.{Bool};

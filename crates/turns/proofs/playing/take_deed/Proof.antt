@@ -1,12 +1,11 @@
 -- `take_deed` meets its contract: nothing to do, or a deed done and printed. Assumes nothing.
-use mathlib.Core.Path.{refl, ap}
+use mathlib.Core.Path.{refl}
 use native.Mathlib.Omega.{arith}
 use lib.ListN.{length, drop}
 use denote.Ref.{now}
-use Rattle.rules.specs.Box.{Reply}
 use Rattle.lent.specs.Lent.{lent}
 use Rattle.pieces.specs.Pieces.{next}
-use Rattle.turns.proofs.Turning.{no-step, answer-small, move-goes, move-waits, turn-waits, turn-goes}
+use Rattle.turns.proofs.Turning.{no-step, carried-small, move-goes, move-waits, turn-waits, turn-goes}
 use borrow.Author.Needs.{needs}
 use Rattle.turns.proofs.playing.take_deed.Statement.{statement}
 use Rattle.turns.proofs.playing.take_deed.Tie as tie
@@ -27,7 +26,7 @@ carry-out-requires : tie.Need-carry-out-requires
 carry-out-requires c κs = let a = c .before .before .before .before .before .before .before .before .before .before .before .before .before .before .before .before .before .before .before .before .before .before .before .args in let r = c .before .before .before .before .before .before .before .before .before .before .before .before .before .before .before .before .before .before .before .before .before .before .before .pre in let m = (move-goes (a .last) (a .place) (now (a .input)) (a .used) (r .0) (next (a .last) (a .place) (drop (a .used) (now (a .input)))) refl (c .before .before .before .before .before .before .before .before .before .before .before .before .before .next-move .result) (c .before .before .before .before .before .before .before .before .before .before .before .before .before .next-move .ensures) (c .before .before .before .before .before .before .before .before .before .before .before .m .given .0 .0) (c .before .before .before .before .before .before .before .before .before .before .before .m .given .0 .1 .0) (c .before .before .before .before .before .before .before .before .before .before .before .m .given .0 .1 .1 .0) (c .before .before .before .before .before .before .before .before .before .before .before .m .given .1)) in (r .3, no-step (a .last) (a .place) (drop (a .used) (now (a .input))) (r .2) (c .before .before .before .before .before .before .before .before .before .before .before .m .given .0 .0) (c .before .before .before .before .before .before .before .before .before .before .before .m .given .0 .1 .0) (drop (c .before .before .before .before .before .before .before .before .before .before .before .m .given .0 .1 .1 .0) (now (a .input))) (m .is))
 
 print-requires : tie.Need-print-requires
-print-requires c κs = let a = c .before .before .before .before .before .before .before .before .before .before .before .before .before .before .before .before .before .before .before .before .before .before .before .before .before .before .before .before .before .before .before .before .before .before .before .before .before .before .before .args in let r = c .before .before .before .before .before .before .before .before .before .before .before .before .before .before .before .before .before .before .before .before .before .before .before .before .before .before .before .before .before .before .before .before .before .before .before .before .before .before .before .pre in let m = (move-goes (a .last) (a .place) (now (a .input)) (a .used) (r .0) (next (a .last) (a .place) (drop (a .used) (now (a .input)))) refl (c .before .before .before .before .before .before .before .before .before .before .before .before .before .before .before .before .before .before .before .before .before .before .before .before .before .before .before .before .before .next-move .result) (c .before .before .before .before .before .before .before .before .before .before .before .before .before .before .before .before .before .before .before .before .before .before .before .before .before .before .before .before .before .next-move .ensures) (c .before .before .before .before .before .before .before .before .before .before .before .before .before .before .before .before .before .before .before .before .before .before .before .before .before .before .before .m .given .0 .0) (c .before .before .before .before .before .before .before .before .before .before .before .before .before .before .before .before .before .before .before .before .before .before .before .before .before .before .before .m .given .0 .1 .0) (c .before .before .before .before .before .before .before .before .before .before .before .before .before .before .before .before .before .before .before .before .before .before .before .before .before .before .before .m .given .0 .1 .1 .0) (c .before .before .before .before .before .before .before .before .before .before .before .before .before .before .before .before .before .before .before .before .before .before .before .before .before .before .before .m .given .1)) in (omega (arith, answer-small (c .before .before .before .before .before .before .before .before .before .before .before .before .before .before .before .before .before .before .before .before .before .before .before .before .before .before .before .m .given .0 .0) (lent (now (a .numbers)) (now (a .switches)) (now (a .hold)) (now (a .words)) (now (a .flags)) (now (a .addresses)) (now (a .sizes)) (now (a .links)) (now (a .marks)) (now (a .deeps))) (m .small), ap (λ (x : Reply). x .answer) (c .before .before .before .before .before .before .before .before .before .before .before .before .before .before .before .carry-out .ensures)), r .1)
+print-requires c κs = let a = c .before .before .before .before .before .before .before .before .before .before .before .before .before .before .before .before .before .before .before .before .before .before .before .before .before .before .before .before .before .before .before .before .before .before .before .before .before .before .before .args in let r = c .before .before .before .before .before .before .before .before .before .before .before .before .before .before .before .before .before .before .before .before .before .before .before .before .before .before .before .before .before .before .before .before .before .before .before .before .before .before .before .pre in let m = (move-goes (a .last) (a .place) (now (a .input)) (a .used) (r .0) (next (a .last) (a .place) (drop (a .used) (now (a .input)))) refl (c .before .before .before .before .before .before .before .before .before .before .before .before .before .before .before .before .before .before .before .before .before .before .before .before .before .before .before .before .before .next-move .result) (c .before .before .before .before .before .before .before .before .before .before .before .before .before .before .before .before .before .before .before .before .before .before .before .before .before .before .before .before .before .next-move .ensures) (c .before .before .before .before .before .before .before .before .before .before .before .before .before .before .before .before .before .before .before .before .before .before .before .before .before .before .before .m .given .0 .0) (c .before .before .before .before .before .before .before .before .before .before .before .before .before .before .before .before .before .before .before .before .before .before .before .before .before .before .before .m .given .0 .1 .0) (c .before .before .before .before .before .before .before .before .before .before .before .before .before .before .before .before .before .before .before .before .before .before .before .before .before .before .before .m .given .0 .1 .1 .0) (c .before .before .before .before .before .before .before .before .before .before .before .before .before .before .before .before .before .before .before .before .before .before .before .before .before .before .before .m .given .1)) in (carried-small (c .before .before .before .before .before .before .before .before .before .before .before .before .before .before .before .before .before .before .before .before .before .before .before .before .before .before .before .m .given .0 .0) (lent (now (a .numbers)) (now (a .switches)) (now (a .hold)) (now (a .words)) (now (a .flags)) (now (a .addresses)) (now (a .sizes)) (now (a .links)) (now (a .marks)) (now (a .deeps))) (lent (c .before .before .before .before .before .before .before .before .before .before .before .before .before .before .before .carry-out .last .1 .1 .0) (c .before .before .before .before .before .before .before .before .before .before .before .before .before .before .before .carry-out .last .1 .1 .1 .0) (c .before .before .before .before .before .before .before .before .before .before .before .before .before .before .before .carry-out .last .1 .1 .1 .1 .0) (c .before .before .before .before .before .before .before .before .before .before .before .before .before .before .before .carry-out .last .1 .1 .1 .1 .1 .0) (c .before .before .before .before .before .before .before .before .before .before .before .before .before .before .before .carry-out .last .1 .1 .1 .1 .1 .1 .0) (c .before .before .before .before .before .before .before .before .before .before .before .before .before .before .before .carry-out .last .1 .1 .1 .1 .1 .1 .1 .0) (c .before .before .before .before .before .before .before .before .before .before .before .before .before .before .before .carry-out .last .1 .1 .1 .1 .1 .1 .1 .1 .0) (c .before .before .before .before .before .before .before .before .before .before .before .before .before .before .before .carry-out .last .1 .1 .1 .1 .1 .1 .1 .1 .1 .0) (c .before .before .before .before .before .before .before .before .before .before .before .before .before .before .before .carry-out .last .1 .1 .1 .1 .1 .1 .1 .1 .1 .1 .0) (c .before .before .before .before .before .before .before .before .before .before .before .before .before .before .before .carry-out .last .1 .1 .1 .1 .1 .1 .1 .1 .1 .1 .1 .0)) (c .before .before .before .before .before .before .before .before .before .before .before .before .before .before .before .carry-out .result) (c .before .before .before .before .before .before .before .before .before .before .before .before .before .before .before .carry-out .ensures) (m .small), r .1)
 
 same-length : tie.Need-same-length
 same-length c = c .before .before .before .before .before .before .before .before .before .before .before .before .before .before .before .before .before .before .carry-out .kept .1 .1 .1 .1 .1 .0

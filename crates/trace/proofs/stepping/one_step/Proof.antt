@@ -3,8 +3,8 @@ use mathlib.Core.Path.{_∙_}
 use denote.Ref.{now}
 use Rattle.lent.specs.Lent.{lent}
 use Rattle.steps.proofs.Ruling.{step-refused}
-use Rattle.turns.proofs.stepping.one_step.Statement.{statement}
-use Rattle.turns.proofs.stepping.one_step.Tie as tie
+use Rattle.trace.proofs.stepping.one_step.Statement.{statement}
+use Rattle.trace.proofs.stepping.one_step.Tie as tie
 
 stepped-requires : tie.Need-stepped-requires
 stepped-requires c κs = c .before .before .before .before .before .before .before .before .before .before .before .before .before .before .before .before .before .pre ∙ c .before .before .before .before .before .before .before .before .before .if1 .taken

@@ -9,7 +9,7 @@ ghost use Rattle.rules.specs.Box.{reply, sound};
 ghost use Rattle.rules.specs.Collector.{step};
 ghost use Rattle.lent.specs.Lent.{lent};
 ghost use Rattle.pieces.specs.Text.{line};
-ghost use Rattle.turns.specs.Outcome.{Stepped};
+ghost use Rattle.trace.specs.Stepped.{Stepped};
 
 // One step of a box of which it is known whether it is sound.
 fn one_step(
@@ -62,7 +62,7 @@ fn put_answer(a: u32, out: &mut [u8], at: usize) -> usize
 
 // So many single steps of a box of which it is known whether it is sound. Each answer is a line of the output, from `at` on. Gives the
 // place behind the last.
-pub(crate) fn step_lines(
+pub fn step_lines(
     right: bool,
     many: u32,
     numbers: &mut [u32; 22],

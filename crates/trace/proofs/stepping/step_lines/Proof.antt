@@ -11,10 +11,10 @@ use Rattle.rules.specs.Parts.{Box}
 use Rattle.rules.specs.Box.{sound}
 use Rattle.lent.specs.Lent.{lent}
 use Rattle.pieces.specs.Text.{line}
-use Rattle.turns.proofs.Turning.{line-short}
-use Rattle.turns.proofs.StepLaws.{stepped-small, stepped-same, Going, goes-begins, goes-on, goes-ends}
-use Rattle.turns.proofs.stepping.step_lines.Statement.{statement}
-use Rattle.turns.proofs.stepping.step_lines.Tie as tie
+use Rattle.pieces.proofs.Lines.{line-short}
+use Rattle.trace.proofs.StepLines.{stepped-small, stepped-same, Going, goes-begins, goes-on, goes-ends}
+use Rattle.trace.proofs.stepping.step_lines.Statement.{statement}
+use Rattle.trace.proofs.stepping.step_lines.Tie as tie
 
 abbrev Inv-loop : tie.InvT-loop
 Inv-loop right many numbers₀ switches₀ hold words₀ flags₀ addresses₀ sizes₀ links₀ marks₀ deeps₀ out₀ at left₀ end₀ numbers switches words flags addresses sizes links marks deeps out left end = (length words ≡ length words₀) × (length flags ≡ length flags₀) × (length addresses ≡ length addresses₀) × (length sizes ≡ length sizes₀) × (length links ≡ length links₀) × (length marks ≡ length marks₀) × (length deeps ≡ length deeps₀) × (length out ≡ length out₀) × (sound (lent numbers switches hold words flags addresses sizes links marks deeps) ≡ right) × (end + 3 * left ≤ length out) × Going many out₀ (lent numbers₀ switches₀ hold words₀ flags₀ addresses₀ sizes₀ links₀ marks₀ deeps₀) at left out (lent numbers switches hold words flags addresses sizes links marks deeps) end

@@ -5,8 +5,8 @@ use lib.ListN.{length-set}
 use denote.Ref.{now}
 use Rattle.pieces.proofs.Lines.{stored-two}
 use borrow.Author.Needs.{needs}
-use Rattle.turns.proofs.stepping.put_answer.Statement.{statement}
-use Rattle.turns.proofs.stepping.put_answer.Tie as tie
+use Rattle.trace.proofs.stepping.put_answer.Statement.{statement}
+use Rattle.trace.proofs.stepping.put_answer.Tie as tie
 
 slice-write-out : tie.Need-slice-write-out
 slice-write-out c = search needs
