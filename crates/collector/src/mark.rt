@@ -77,7 +77,7 @@ impl State {
     }
 
     // Looks at word src + index and adds 1 to index; a pointer other than nil is to be shaded next.
-    fn scan_word(mut self, words: &[u32], flags: &[bool]) -> State
+    pub fn scan_word(mut self, words: &[u32], flags: &[bool]) -> State
         requires { ⌜ (length (now words) ≡ self .m) × (length (now flags) ≡ self .m) × (self .m < 65536) × (self .src + self .index < self .m) ⌝ }
         ensures { λ r. ⌜ ((q : Registers) (ads ss ls : List ℕ) (ms ds : List Bool) → boxed q (now (words .entry)) (now (flags .entry)) ads ss ls ms ds r ≡ scan-word (boxed q (now (words .entry)) (now (flags .entry)) ads ss ls ms ds self)) ⌝ }
     {

@@ -82,7 +82,7 @@ impl State {
     }
 
     // The word at address a goes to the copy register; below live it is written next, and else its place is cleared first.
-    fn copy_word(mut self, a: u32, words: &[u32], flags: &[bool]) -> State
+    pub fn copy_word(mut self, a: u32, words: &[u32], flags: &[bool]) -> State
         requires { ⌜ (length (now words) ≡ self .m) × (length (now flags) ≡ self .m) × (a < self .m) ⌝ }
         ensures { λ r. ⌜ ((q : Registers) (ads ss ls : List ℕ) (ms ds : List Bool) → (boxed q (now (words .entry)) (now (flags .entry)) ads ss ls ms ds r) ≡ copy-word a (boxed q (now (words .entry)) (now (flags .entry)) ads ss ls ms ds self)) ⌝ }
     {
@@ -170,7 +170,7 @@ impl State {
     }
 
     // One word of a released tuple becomes data 0.
-    fn zero_word(mut self, words: &mut [u32], flags: &mut [bool]) -> State
+    pub fn zero_word(mut self, words: &mut [u32], flags: &mut [bool]) -> State
         requires { ⌜ (length (now words) ≡ self .m) × (length (now flags) ≡ self .m) × (self .m < 65536) × (self .src + self .index < self .m) ⌝ }
         ensures { λ r. ⌜ ((q : Registers) (ads ss ls : List ℕ) (ms ds : List Bool) → (boxed q (now (words .exit)) (now (flags .exit)) ads ss ls ms ds r) ≡ zero-word (boxed q (now (words .entry)) (now (flags .entry)) ads ss ls ms ds self)) ⌝ }
     {

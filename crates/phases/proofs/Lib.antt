@@ -1,3 +1,4 @@
 pub mod Landing
 pub mod Looking
 pub mod Picking
+pub mod WordSteps

@@ -2,5 +2,7 @@
 mod choice;
 mod look;
 mod phases;
+mod words;
 
 pub use choice::rule;
+pub use words::word_step;

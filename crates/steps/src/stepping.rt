@@ -2,6 +2,7 @@
 use lent::grant;
 use lent::sound;
 use phases::rule;
+use phases::word_step;
 ghost use mathlib.Core.Bool.{true, cond};
 ghost use mathlib.Core.Path.{_≡_};
 ghost use Rattle.rules.specs.Box.{reply, sound};
@@ -142,6 +143,10 @@ pub fn step(
         marks.len(),
         deeps.len(),
     ) {
+        let answer = word_step(numbers, switches, hold, words, flags);
+        if answer != 0 {
+            return answer;
+        }
         let went = steps(
             1,
             numbers,
