@@ -156,6 +156,16 @@ pub fn refused(name: &str, wanted: usize) -> Load {
     growing.load(name)
 }
 
+/// Steps of a box that is not open: each is refused at its first test.
+pub fn not_open(name: &str, wanted: usize) -> Load {
+    let mut growing = Growing::new(0, (0, 0), wanted);
+    while !growing.full() {
+        growing.steps(100);
+        growing.recorder.close_steps();
+    }
+    growing.load(name)
+}
+
 /// Document 02's three loads, and one of requests alone.
 pub fn all(wanted: usize) -> [Load; 4] {
     [

@@ -82,7 +82,7 @@ fn programs(files: &Files) -> Result<(), Disagreement> {
             speed(plain),
         );
         println!(
-            "    {} bytes read: {:.0} % of the time, plain {:.0} %; {} lines printed: {:.0} %, plain {:.0} %",
+            "    {} bytes read: {:.0} % of the time, plain {:.0} %; {} lines printed, with the plain player's code: {:.0} %, plain {:.0} %",
             load.bytes.len(),
             share(reads - start, ours),
             share(plain_reads - plain_start, plain),
@@ -130,18 +130,23 @@ fn growth(files: &Files) -> Result<(), Disagreement> {
     Ok(())
 }
 
-/// The C interface on the calls of each load, and of runs of forty steps.
+/// The C interface on the calls of each load, and of runs of forty steps; and
+/// what a call costs that is refused at once, which is hardly more than the
+/// passing of its arguments.
 fn c_interface() -> Result<(), Disagreement> {
-    let time = |load: &Load, by: By, what: &str| -> Result<(), Disagreement> {
+    let each = |load: &Load, time: f64| time * 1e9 / load.answers.len() as f64;
+    let times = |load: &Load, by: By| {
         let times = interface::times(load, by);
-        let [ours, plain] = times.ok_or(format!("{}, {by:?}", load.name))?;
-        let each = |time: f64| time * 1e9 / load.answers.len() as f64;
+        times.ok_or(format!("{}, {by:?}: they do not agree", load.name))
+    };
+    let time = |load: &Load, by: By, what: &str| -> Result<(), Disagreement> {
+        let [ours, plain] = times(load, by)?;
         println!(
             "{}, {what}: ratio {:.2}; {:.1} ns a request or step, plain {:.1}",
             load.name,
             ours / plain,
-            each(ours),
-            each(plain)
+            each(load, ours),
+            each(load, plain)
         );
         Ok(())
     };
@@ -151,6 +156,9 @@ fn c_interface() -> Result<(), Disagreement> {
     }
     let refused = loads::refused("refused requests", MILLION);
     time(&refused, By::SingleCalls, "by single calls")?;
+    let not_open = loads::not_open("steps of no open box", MILLION);
+    let [ours, _] = times(&not_open, By::SingleCalls)?;
+    println!("{}: {:.1} ns a call", not_open.name, each(&not_open, ours));
     let loads = [
         mixed("small tuples", LARGEST, 5, 40, MILLION),
         mixed("large tuples", LARGEST, 900, 40, MILLION),
