@@ -143,6 +143,7 @@ pub fn step(
         marks.len(),
         deeps.len(),
     ) {
+        // Most steps only go through a tuple's words, and need no more than these parts.
         let answer = word_step(numbers, switches, hold, words, flags);
         if answer != 0 {
             return answer;
