@@ -1,8 +1,10 @@
 //! The program `play` against a plain player's program on the same records, and
 //! the C interface against the plain player on the same calls:
 //!
-//!     cargo run --release --bin bench
+//!     cargo run --release --offline --bin bench
 //!
+//! It needs the library of the C interface and the program `play`, which
+//! `rt staticlib capi && rt check play` build in the root of the repository.
 //! Records are grown on the second program. What both programs print must be
 //! its answers, byte for byte, before anything is timed. Ratios are processor
 //! times in one run, the least of several.

@@ -41,8 +41,9 @@ fn children() -> Duration {
     time(usage.user) + time(usage.system)
 }
 
-/// A record in a file, and what is printed of it.
+/// The two programs, a record in a file, and what is printed of it.
 pub struct Files {
+    programs: [PathBuf; 2],
     record: PathBuf,
     printed: PathBuf,
 }
@@ -53,6 +54,7 @@ impl Files {
         let name =
             |what: &str| folder.join(format!("gloamish-bench-{}.{what}", std::process::id()));
         Files {
+            programs: [program(), plain_program()],
             record: name("record"),
             printed: name("lines"),
         }
@@ -85,10 +87,9 @@ impl Files {
     /// The least times of both programs on a record, in seconds.
     pub fn times(&self, record: &[u8]) -> [f64; 2] {
         fs::write(&self.record, record).unwrap();
-        let programs = [program(), plain_program()];
         let mut least = [Duration::MAX; 2];
         for _ in 0..TURNS {
-            for (program, least) in programs.iter().zip(&mut least) {
+            for (program, least) in self.programs.iter().zip(&mut least) {
                 *least = self.time(program).min(*least);
             }
         }
@@ -99,7 +100,8 @@ impl Files {
     pub fn agree(&self, load: &Load) -> bool {
         fs::write(&self.record, &load.bytes).unwrap();
         let lines = text(&load.answers).into_bytes();
-        self.printed(&program()) == lines && self.printed(&plain_program()) == lines
+        let same = |program: &PathBuf| self.printed(program) == lines;
+        self.programs.iter().all(same)
     }
 }
 
@@ -111,14 +113,16 @@ impl Drop for Files {
     }
 }
 
-/// The plain player's program, which stands beside this one.
+/// The plain player's program, which stands beside this one. `cargo run` builds
+/// one program only, so it is built here, as it is today.
 fn plain_program() -> PathBuf {
-    let path = std::env::current_exe()
-        .unwrap()
-        .with_file_name("plain_play");
-    assert!(
-        path.exists(),
-        "plain_play is missing: `cargo build --release` builds it"
-    );
-    path
+    let cargo = std::env::var_os("CARGO").unwrap_or("cargo".into());
+    let mut build = Command::new(cargo);
+    build
+        .args(["build", "--quiet", "--release", "--offline"])
+        .args(["--bin", "plain_play"])
+        .current_dir(env!("CARGO_MANIFEST_DIR"));
+    assert!(build.status().unwrap().success(), "plain_play is not built");
+    let here = std::env::current_exe().unwrap();
+    here.with_file_name("plain_play")
 }
