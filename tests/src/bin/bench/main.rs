@@ -173,6 +173,10 @@ fn c_interface() -> Result<(), Disagreement> {
 }
 
 fn main() -> ExitCode {
+    if cfg!(debug_assertions) {
+        println!("built without --release, its times would say nothing");
+        return ExitCode::FAILURE;
+    }
     let files = Files::new();
     let done = programs(&files)
         .and_then(|()| growth(&files))

@@ -114,7 +114,7 @@ impl Drop for Files {
 }
 
 /// The plain player's program, which stands beside this one. `cargo run` builds
-/// one program only, so it is built here, as it is today.
+/// one program only, so it is built here, and is never an old one.
 fn plain_program() -> PathBuf {
     let cargo = std::env::var_os("CARGO").unwrap_or("cargo".into());
     let mut build = Command::new(cargo);
