@@ -2,7 +2,6 @@
 -- By computing the definition under the facts of each case. Assumes nothing.
 use Prim.Native.Nat.{ℕ, _+_, _<_, _≤_}
 use mathlib.Core.Bool.{Bool, true, false, cond, _&&_}
-use mathlib.Core.Logic.{⊎-elim}
 use mathlib.Core.Path.{_≡_, refl, sym, _∙_, ap}
 use native.Mathlib.Omega.{arith}
 use lib.Dec.{leb, ltb, eqb}
@@ -10,7 +9,7 @@ use borrow.Author.Tests.{lt-leb, le-leb, leb-true, ltb-true, eq-eqb, ne-eqb, eqb
 use Rattle.rules.specs.Parts.{Box}
 use Rattle.rules.specs.Box.{Reply, reply, sound}
 use Rattle.rules.specs.Collector.{mark-scan, sweep-read, sweep-clear, sweep-write, sweep-zero, rule-of, step}
-use Rattle.rules.proofs.Demand1.{demand1}
+use Rattle.rules.proofs.Demand1.{step-between}
 use Rattle.rules.proofs.Sizes.{and-left, and-right}
 use Rattle.phases.specs.Words.{at-word, word-step}
 use Rattle.phases.proofs.Picking.{rule-at}
@@ -66,7 +65,7 @@ module _ (b : Box) (r : Reply) where
 -- ---- what it comes to
 
 -- the phase's rule, or 0
-pub data Came (b : Box) (r : Reply) : Type 0 where
+data Came (b : Box) (r : Reply) : Type 0 where
   by-rule : r ≡ rule-of (b .collector .phase) b → Came b r
   not-done : r ≡ reply b 0 → Came b r
 
@@ -91,7 +90,7 @@ module _ (b : Box) where
 
   -- 0 is no answer of a step
   never-0 : (r : Reply) → r ≡ step b → r .answer ≡ 0 → ⊥
-  never-0 r e z = let f : r .answer ≡ step b .answer = ap (λ (x : Reply). x .answer) e in ⊎-elim (λ u. omega arith) (λ u. ⊎-elim (λ v. omega arith) (λ v. omega arith) u) (demand1 b .step-answers)
+  never-0 r e z = let f : r .answer ≡ step b .answer = ap (λ (x : Reply). x .answer) e in omega (arith, step-between b .0)
 
   module _ (s : sound b ≡ true) where
     ruled : (r : Reply) → r ≡ rule-of (b .collector .phase) b → r ≡ step b

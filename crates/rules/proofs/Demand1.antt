@@ -1,12 +1,13 @@
 -- Demand 1 (specs/Demand1): for any box whatever, with no hypothesis. Its parts are proved under Table/; the opening's are here.
 -- Assumes nothing.
-use Prim.Native.Nat.{ℕ}
+use Prim.Native.Nat.{ℕ, _≤_}
 use mathlib.Core.Bool.{true, false}
-use mathlib.Core.Logic.{_⊎_, inl, inr, _↔_}
+use mathlib.Core.Logic.{_⊎_, inl, inr, ⊎-elim, _↔_}
 use mathlib.Core.Path.{_≡_, refl, sym, ap, subst}
 use native.Mathlib.Omega.{arith}
 use Rattle.rules.specs.Parts.{Box}
 use Rattle.rules.specs.Box.{Reply, reply, right-sizes}
+use Rattle.rules.specs.Collector.{step}
 use Rattle.rules.specs.Open.{opened, opening}
 use Rattle.rules.specs.Answers.{holds, passed, given, OpeningGives}
 use Rattle.rules.specs.Demand1.{Demand1}
@@ -74,3 +75,7 @@ demand1 b =
       opening-exactly = λ m h. opening-exactly m h b;
       run-steps = λ n. run-steps n b;
     }
+
+-- a step's answer as a number
+pub step-between : (b : Box) → (8 ≤ step b .answer) × (step b .answer ≤ 33)
+step-between b = ⊎-elim (λ e. (omega arith, omega arith)) (λ f. ⊎-elim (λ e. (omega arith, omega arith)) (λ g. (omega arith, omega arith)) f) (demand1 b .step-answers)

@@ -2,7 +2,6 @@
 use Prim.Native.Nat.{ℕ, zero, suc, _+_, _*_, _-_, _≤_, _<_}
 use mathlib.Core.Bool.{Bool}
 use mathlib.Core.List.{List, _++_}
-use mathlib.Core.Logic.{⊎-elim}
 use mathlib.Core.Path.{_≡_, refl, _∙_, ap}
 use native.Mathlib.Omega.{arith}
 use lib.ListN.{length, length-append}
@@ -10,7 +9,7 @@ use lib.Seq.{sets}
 use Rattle.rules.specs.Parts.{Box}
 use Rattle.rules.specs.Box.{Reply, reply, sound}
 use Rattle.rules.specs.Collector.{step}
-use Rattle.rules.proofs.Demand1.{demand1}
+use Rattle.rules.proofs.Demand1.{step-between}
 use Rattle.rules.proofs.Sound.{step-same-sound}
 use Rattle.pieces.specs.Text.{line, text}
 use Rattle.pieces.specs.Lines.{play-steps}
@@ -21,7 +20,7 @@ use Rattle.trace.specs.Stepped.{Stepped}
 -- ---- the lines of so many steps
 
 pub step-small : (b : Box) → step b .answer < 100
-step-small b = ⊎-elim (λ e. omega arith) (λ f. ⊎-elim (λ e. omega arith) (λ g. omega arith) f) (demand1 b .step-answers)
+step-small b = omega (arith, step-between b .1)
 
 -- an answer that the code got
 pub stepped-small : (b b1 : Box) (a : ℕ) → reply b1 a ≡ step b → a < 100

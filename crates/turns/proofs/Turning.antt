@@ -267,14 +267,6 @@ module _ (last : Bool) (bs o : List ℕ) (b : Box) (p : Place) (k n : ℕ) (h : 
 
 -- ---- all turns
 
--- a turn keeps a length that all turns before it kept
-pub then-long : {A : Type 0} (xs ys zs : List A) → length xs ≡ length ys → length ys ≡ length zs → length xs ≡ length zs
-then-long xs ys zs e f = e ∙ f
-
--- and whether the box is sound
-pub then-sound : (b b1 : Box) (right : Bool) → sound b1 ≡ sound b → sound b ≡ right → sound b1 ≡ right
-then-sound b b1 right e f = e ∙ f
-
 -- before the first turn everything is to be played, and after the last nothing
 pub begins : (o : List ℕ) (w last : Bool) (p : Place) (bs : List ℕ) (b : Box) → outcome o 0 (rest-of true w last (length o - 0) p bs b) ≡ outcome o 0 (play-piece last (length o) p bs b)
 unfolding rest-of

@@ -12,7 +12,7 @@ use Rattle.rules.specs.Box.{sound}
 use Rattle.lent.specs.Lent.{state-of, lent}
 use Rattle.pieces.specs.Pieces.{at, play-piece}
 use Rattle.turns.specs.Outcome.{outcome, rest-of, to-go}
-use Rattle.turns.proofs.Turning.{begins, ends, counts, then-long, then-sound, turn-less, turn-same}
+use Rattle.turns.proofs.Turning.{begins, ends, counts, turn-less, turn-same}
 use borrow.Author.Needs.{needs}
 use Rattle.turns.proofs.playing.play_on.Statement.{statement}
 use Rattle.turns.proofs.playing.play_on.Tie as tie
@@ -46,7 +46,7 @@ loop-less : tie.Need-loop-less Inv-loop μ-loop
 loop-less c = let a = c .before .before .before .before .before .before .before .before .before .before .before .before .before .before .before .before .before .before .before .before .before .before .before .before .before .before .before .before .before .before .before .before .before .before .before .before .before .before .before .before .before .before .before .before .args in let v = c .before .before .before .before .before .before .before .before .before .before .before .before .before .before .before .before .before .before .before .before .before .before .before .before .before .before .before .before .before .before .loop in let g = c .before .before .before .before .before .before .before .before .before .before .before .before .before .before .before .before .before .before .before .before .before .before .before .before .before .before .before .before .before .loop-test .taken in let t = c .before .before .before .before .before .before .before .before .before .before .before .before .before .before .before .before .before .take-turn .result in let e = c .before .before .before .before .before .before .before .before .before .before .before .before .before .before .before .before .before .take-turn .ensures in let o = c .before .before .before .before .before .before .before .before .before .before .before .before .before .before .before .before .before .take-turn .last .1 .1 .1 .1 .1 .1 .1 .1 .1 .1 .1 .1 .1 .1 .1 .0 in turn-less (t .going) (to-go (now (a .input)) (t .used) o (t .written)) (to-go (now (a .input)) (v .used) (v .out) (v .written)) (v .going) g (e .never-more) (e .falls)
 
 loop-again : tie.Need-loop-again Inv-loop μ-loop
-loop-again c = let a = c .before .before .before .before .before .before .before .before .before .before .before .before .before .before .before .before .before .before .before .before .before .before .before .before .before .before .before .before .before .before .before .before .before .before .before .before .before .before .before .before .before .before .before .before .args in let v = c .before .before .before .before .before .before .before .before .before .before .before .before .before .before .before .before .before .before .before .before .before .before .before .before .before .before .before .before .before .before .loop in let g = c .before .before .before .before .before .before .before .before .before .before .before .before .before .before .before .before .before .before .before .before .before .before .before .before .before .before .before .before .before .loop-test .taken in let t = c .before .before .before .before .before .before .before .before .before .before .before .before .before .before .before .before .before .take-turn .result in let e = c .before .before .before .before .before .before .before .before .before .before .before .before .before .before .before .before .before .take-turn .ensures in let o = c .before .before .before .before .before .before .before .before .before .before .before .before .before .before .before .before .before .take-turn .last .1 .1 .1 .1 .1 .1 .1 .1 .1 .1 .1 .1 .1 .1 .1 .0 in let x : Box = (lent (v .numbers) (v .switches) (v .hold) (v .words) (v .flags) (v .addresses) (v .sizes) (v .links) (v .marks) (v .deeps)) in let y : Box = (lent (c .before .before .before .before .before .before .before .before .before .before .before .before .before .before .before .before .before .take-turn .last .1 .1 .1 .1 .1 .0) (c .before .before .before .before .before .before .before .before .before .before .before .before .before .before .before .before .before .take-turn .last .1 .1 .1 .1 .1 .1 .0) (c .before .before .before .before .before .before .before .before .before .before .before .before .before .before .before .before .before .take-turn .last .1 .1 .1 .1 .1 .1 .1 .0) (c .before .before .before .before .before .before .before .before .before .before .before .before .before .before .before .before .before .take-turn .last .1 .1 .1 .1 .1 .1 .1 .1 .0) (c .before .before .before .before .before .before .before .before .before .before .before .before .before .before .before .before .before .take-turn .last .1 .1 .1 .1 .1 .1 .1 .1 .1 .0) (c .before .before .before .before .before .before .before .before .before .before .before .before .before .before .before .before .before .take-turn .last .1 .1 .1 .1 .1 .1 .1 .1 .1 .1 .0) (c .before .before .before .before .before .before .before .before .before .before .before .before .before .before .before .before .before .take-turn .last .1 .1 .1 .1 .1 .1 .1 .1 .1 .1 .1 .0) (c .before .before .before .before .before .before .before .before .before .before .before .before .before .before .before .before .before .take-turn .last .1 .1 .1 .1 .1 .1 .1 .1 .1 .1 .1 .1 .0) (c .before .before .before .before .before .before .before .before .before .before .before .before .before .before .before .before .before .take-turn .last .1 .1 .1 .1 .1 .1 .1 .1 .1 .1 .1 .1 .1 .0) (c .before .before .before .before .before .before .before .before .before .before .before .before .before .before .before .before .before .take-turn .last .1 .1 .1 .1 .1 .1 .1 .1 .1 .1 .1 .1 .1 .1 .0)) in let p = at (v .stage) (v .count) (v .left) (v .opened) in (then-long (c .before .before .before .before .before .before .before .before .before .before .before .before .before .before .before .before .before .take-turn .last .1 .1 .1 .1 .1 .1 .1 .1 .0) (v .words) (now (a .words)) (c .before .before .before .before .before .before .before .before .before .before .before .before .before .before .before .before .before .take-turn .kept .1 .1 .1 .1 .1 .1 .1 .1 .0) (v .inv .0), then-long (c .before .before .before .before .before .before .before .before .before .before .before .before .before .before .before .before .before .take-turn .last .1 .1 .1 .1 .1 .1 .1 .1 .1 .0) (v .flags) (now (a .flags)) (c .before .before .before .before .before .before .before .before .before .before .before .before .before .before .before .before .before .take-turn .kept .1 .1 .1 .1 .1 .1 .1 .1 .1 .0) (v .inv .1), then-long (c .before .before .before .before .before .before .before .before .before .before .before .before .before .before .before .before .before .take-turn .last .1 .1 .1 .1 .1 .1 .1 .1 .1 .1 .0) (v .addresses) (now (a .addresses)) (c .before .before .before .before .before .before .before .before .before .before .before .before .before .before .before .before .before .take-turn .kept .1 .1 .1 .1 .1 .1 .1 .1 .1 .1 .0) (v .inv .2), then-long (c .before .before .before .before .before .before .before .before .before .before .before .before .before .before .before .before .before .take-turn .last .1 .1 .1 .1 .1 .1 .1 .1 .1 .1 .1 .0) (v .sizes) (now (a .sizes)) (c .before .before .before .before .before .before .before .before .before .before .before .before .before .before .before .before .before .take-turn .kept .1 .1 .1 .1 .1 .1 .1 .1 .1 .1 .1 .0) (v .inv .3), then-long (c .before .before .before .before .before .before .before .before .before .before .before .before .before .before .before .before .before .take-turn .last .1 .1 .1 .1 .1 .1 .1 .1 .1 .1 .1 .1 .0) (v .links) (now (a .links)) (c .before .before .before .before .before .before .before .before .before .before .before .before .before .before .before .before .before .take-turn .kept .1 .1 .1 .1 .1 .1 .1 .1 .1 .1 .1 .1 .0) (v .inv .4), then-long (c .before .before .before .before .before .before .before .before .before .before .before .before .before .before .before .before .before .take-turn .last .1 .1 .1 .1 .1 .1 .1 .1 .1 .1 .1 .1 .1 .0) (v .marks) (now (a .marks)) (c .before .before .before .before .before .before .before .before .before .before .before .before .before .before .before .before .before .take-turn .kept .1 .1 .1 .1 .1 .1 .1 .1 .1 .1 .1 .1 .1 .0) (v .inv .5), then-long (c .before .before .before .before .before .before .before .before .before .before .before .before .before .before .before .before .before .take-turn .last .1 .1 .1 .1 .1 .1 .1 .1 .1 .1 .1 .1 .1 .1 .0) (v .deeps) (now (a .deeps)) (c .before .before .before .before .before .before .before .before .before .before .before .before .before .before .before .before .before .take-turn .kept .1 .1 .1 .1 .1 .1 .1 .1 .1 .1 .1 .1 .1 .1 .0) (v .inv .6), then-long o (v .out) (now (a .out)) (c .before .before .before .before .before .before .before .before .before .before .before .before .before .before .before .before .before .take-turn .kept .1 .1 .1 .1 .1 .1 .1 .1 .1 .1 .1 .1 .1 .1 .1 .0) (v .inv .7), e .bytes-in, e .room-in, then-sound x y (c .before .before .before .before .before .before .before .before .before .before .before .before .before .before .before .before .before .before .before .before .before .before .before .before .before .before .before .before .before .before .before .sound .result) (e .sound-same) (v .inv .10), turn-same (v .out) o (v .written) (t .written) (rest-of (t .going) (t .waits) (a .last) (length o - t .written) (t .place) (drop (t .used) (now (a .input))) y) (outcome (now (a .out)) 0 (play-piece (a .last) (length (now (a .out))) (a .place) (now (a .input)) (lent (now (a .numbers)) (now (a .switches)) (now (a .hold)) (now (a .words)) (now (a .flags)) (now (a .addresses)) (now (a .sizes)) (now (a .links)) (now (a .marks)) (now (a .deeps))))) (v .going) (v .waits) (a .last) (length (v .out) - (v .written)) p (drop (v .used) (now (a .input))) x g (e .comes-to) (v .inv .11))
+loop-again c = let a = c .before .before .before .before .before .before .before .before .before .before .before .before .before .before .before .before .before .before .before .before .before .before .before .before .before .before .before .before .before .before .before .before .before .before .before .before .before .before .before .before .before .before .before .before .args in let v = c .before .before .before .before .before .before .before .before .before .before .before .before .before .before .before .before .before .before .before .before .before .before .before .before .before .before .before .before .before .before .loop in let g = c .before .before .before .before .before .before .before .before .before .before .before .before .before .before .before .before .before .before .before .before .before .before .before .before .before .before .before .before .before .loop-test .taken in let t = c .before .before .before .before .before .before .before .before .before .before .before .before .before .before .before .before .before .take-turn .result in let e = c .before .before .before .before .before .before .before .before .before .before .before .before .before .before .before .before .before .take-turn .ensures in let o = c .before .before .before .before .before .before .before .before .before .before .before .before .before .before .before .before .before .take-turn .last .1 .1 .1 .1 .1 .1 .1 .1 .1 .1 .1 .1 .1 .1 .1 .0 in let x : Box = (lent (v .numbers) (v .switches) (v .hold) (v .words) (v .flags) (v .addresses) (v .sizes) (v .links) (v .marks) (v .deeps)) in let y : Box = (lent (c .before .before .before .before .before .before .before .before .before .before .before .before .before .before .before .before .before .take-turn .last .1 .1 .1 .1 .1 .0) (c .before .before .before .before .before .before .before .before .before .before .before .before .before .before .before .before .before .take-turn .last .1 .1 .1 .1 .1 .1 .0) (c .before .before .before .before .before .before .before .before .before .before .before .before .before .before .before .before .before .take-turn .last .1 .1 .1 .1 .1 .1 .1 .0) (c .before .before .before .before .before .before .before .before .before .before .before .before .before .before .before .before .before .take-turn .last .1 .1 .1 .1 .1 .1 .1 .1 .0) (c .before .before .before .before .before .before .before .before .before .before .before .before .before .before .before .before .before .take-turn .last .1 .1 .1 .1 .1 .1 .1 .1 .1 .0) (c .before .before .before .before .before .before .before .before .before .before .before .before .before .before .before .before .before .take-turn .last .1 .1 .1 .1 .1 .1 .1 .1 .1 .1 .0) (c .before .before .before .before .before .before .before .before .before .before .before .before .before .before .before .before .before .take-turn .last .1 .1 .1 .1 .1 .1 .1 .1 .1 .1 .1 .0) (c .before .before .before .before .before .before .before .before .before .before .before .before .before .before .before .before .before .take-turn .last .1 .1 .1 .1 .1 .1 .1 .1 .1 .1 .1 .1 .0) (c .before .before .before .before .before .before .before .before .before .before .before .before .before .before .before .before .before .take-turn .last .1 .1 .1 .1 .1 .1 .1 .1 .1 .1 .1 .1 .1 .0) (c .before .before .before .before .before .before .before .before .before .before .before .before .before .before .before .before .before .take-turn .last .1 .1 .1 .1 .1 .1 .1 .1 .1 .1 .1 .1 .1 .1 .0)) in let p = at (v .stage) (v .count) (v .left) (v .opened) in (_∙_ {a = length (c .before .before .before .before .before .before .before .before .before .before .before .before .before .before .before .before .before .take-turn .last .1 .1 .1 .1 .1 .1 .1 .1 .0)} {b = length (v .words)} {c = length (now (a .words))} (c .before .before .before .before .before .before .before .before .before .before .before .before .before .before .before .before .before .take-turn .kept .1 .1 .1 .1 .1 .1 .1 .1 .0) (v .inv .0), _∙_ {a = length (c .before .before .before .before .before .before .before .before .before .before .before .before .before .before .before .before .before .take-turn .last .1 .1 .1 .1 .1 .1 .1 .1 .1 .0)} {b = length (v .flags)} {c = length (now (a .flags))} (c .before .before .before .before .before .before .before .before .before .before .before .before .before .before .before .before .before .take-turn .kept .1 .1 .1 .1 .1 .1 .1 .1 .1 .0) (v .inv .1), _∙_ {a = length (c .before .before .before .before .before .before .before .before .before .before .before .before .before .before .before .before .before .take-turn .last .1 .1 .1 .1 .1 .1 .1 .1 .1 .1 .0)} {b = length (v .addresses)} {c = length (now (a .addresses))} (c .before .before .before .before .before .before .before .before .before .before .before .before .before .before .before .before .before .take-turn .kept .1 .1 .1 .1 .1 .1 .1 .1 .1 .1 .0) (v .inv .2), _∙_ {a = length (c .before .before .before .before .before .before .before .before .before .before .before .before .before .before .before .before .before .take-turn .last .1 .1 .1 .1 .1 .1 .1 .1 .1 .1 .1 .0)} {b = length (v .sizes)} {c = length (now (a .sizes))} (c .before .before .before .before .before .before .before .before .before .before .before .before .before .before .before .before .before .take-turn .kept .1 .1 .1 .1 .1 .1 .1 .1 .1 .1 .1 .0) (v .inv .3), _∙_ {a = length (c .before .before .before .before .before .before .before .before .before .before .before .before .before .before .before .before .before .take-turn .last .1 .1 .1 .1 .1 .1 .1 .1 .1 .1 .1 .1 .0)} {b = length (v .links)} {c = length (now (a .links))} (c .before .before .before .before .before .before .before .before .before .before .before .before .before .before .before .before .before .take-turn .kept .1 .1 .1 .1 .1 .1 .1 .1 .1 .1 .1 .1 .0) (v .inv .4), _∙_ {a = length (c .before .before .before .before .before .before .before .before .before .before .before .before .before .before .before .before .before .take-turn .last .1 .1 .1 .1 .1 .1 .1 .1 .1 .1 .1 .1 .1 .0)} {b = length (v .marks)} {c = length (now (a .marks))} (c .before .before .before .before .before .before .before .before .before .before .before .before .before .before .before .before .before .take-turn .kept .1 .1 .1 .1 .1 .1 .1 .1 .1 .1 .1 .1 .1 .0) (v .inv .5), _∙_ {a = length (c .before .before .before .before .before .before .before .before .before .before .before .before .before .before .before .before .before .take-turn .last .1 .1 .1 .1 .1 .1 .1 .1 .1 .1 .1 .1 .1 .1 .0)} {b = length (v .deeps)} {c = length (now (a .deeps))} (c .before .before .before .before .before .before .before .before .before .before .before .before .before .before .before .before .before .take-turn .kept .1 .1 .1 .1 .1 .1 .1 .1 .1 .1 .1 .1 .1 .1 .0) (v .inv .6), _∙_ {a = length o} {b = length (v .out)} {c = length (now (a .out))} (c .before .before .before .before .before .before .before .before .before .before .before .before .before .before .before .before .before .take-turn .kept .1 .1 .1 .1 .1 .1 .1 .1 .1 .1 .1 .1 .1 .1 .1 .0) (v .inv .7), e .bytes-in, e .room-in, _∙_ {a = sound y} {b = sound x} {c = c .before .before .before .before .before .before .before .before .before .before .before .before .before .before .before .before .before .before .before .before .before .before .before .before .before .before .before .before .before .before .before .sound .result} (e .sound-same) (v .inv .10), turn-same (v .out) o (v .written) (t .written) (rest-of (t .going) (t .waits) (a .last) (length o - t .written) (t .place) (drop (t .used) (now (a .input))) y) (outcome (now (a .out)) 0 (play-piece (a .last) (length (now (a .out))) (a .place) (now (a .input)) (lent (now (a .numbers)) (now (a .switches)) (now (a .hold)) (now (a .words)) (now (a .flags)) (now (a .addresses)) (now (a .sizes)) (now (a .links)) (now (a .marks)) (now (a .deeps))))) (v .going) (v .waits) (a .last) (length (v .out) - (v .written)) p (drop (v .used) (now (a .input))) x g (e .comes-to) (v .inv .11))
 
 same-length : tie.Need-same-length Inv-loop μ-loop
 same-length c = c .before .loop .inv .0
