@@ -4,10 +4,10 @@ use collector::Word;
 ghost use mathlib.Core.Bool.{Bool};
 ghost use mathlib.Core.List.{List};
 ghost use mathlib.Core.Path.{_≡_};
-ghost use Prim.Native.Nat.{ℕ, _+_, _<_};
+ghost use Prim.Native.Nat.{ℕ, _<_};
 ghost use lib.ListN.{length};
 ghost use Rattle.rules.specs.Parts.{Registers, Box};
-ghost use Rattle.rules.specs.Place.{being-moved, place, in-memory, read};
+ghost use Rattle.rules.specs.Place.{place, in-memory, read};
 ghost use Rattle.collector.specs.Boxed.{boxed, word-of};
 ghost use Rattle.requests.specs.Found.{place-of, Within};
 
@@ -17,50 +17,39 @@ pub enum Place {
     At(usize),
 }
 
-// So many words behind an address.
-fn behind(address: u32, i: u32) -> Place
-    ensures { λ r. ⌜ r ≡ Place.At (address + i) ⌝ }
-{
-    Place::At(address as usize + i as usize)
-}
-
-// Whether h is the tuple being moved: the collector's tuple, in phase 5, 6 or 7.
-fn being_moved(tuple: u32, phase: u32, h: u32) -> bool
-    ensures { λ r. ⌜ ((b : Box) → b .collector .tuple ≡ tuple → b .collector .phase ≡ phase → r ≡ being-moved h b) ⌝ }
-{
-    if h != tuple {
-        return false;
-    }
-    if phase < 5 {
-        return false;
-    }
-    phase <= 7
-}
-
-// Where index i of tuple h is: the copy register for the word on its way, behind dest for a word already moved, otherwise behind
-// h's address.
+// Where index i of tuple h is. Of the tuple being moved, which is the collector's tuple in phase 5, 6 or 7, the words before index are behind
+// dest already, and in phase 6 or 7 the word at index is in the copy register; every other word is behind h's address. No test asks what
+// those before it on the same path have settled.
 pub(crate) fn find_place(s: State, h: u32, i: u32, addresses: &[u32]) -> Place
     requires { ⌜ (length (now addresses) ≡ s .h) × (h < s .h) ⌝ }
     ensures { λ r. ⌜ ((q : Registers) (ws : List ℕ) (fs : List Bool) (ss ls : List ℕ) (ms ds : List Bool) → place-of r ≡ place h i (boxed q ws fs (now (addresses .entry)) ss ls ms ds s)) ⌝ }
 {
     let j = h as usize;
-    let address = addresses[j];
+    let home = addresses[j] as usize + i as usize;
+    let tuple = s.tuple;
     let index = s.index;
-    let dest = s.dest;
     let phase = s.phase;
-    if being_moved(s.tuple, phase, h) {
-        if i < index {
-            return behind(dest, i);
-        }
-        if index < i {
-            return behind(address, i);
-        }
-        if phase < 6 {
-            return behind(address, i);
-        }
-        return Place::Copy;
+    let dest = s.dest;
+    if h != tuple {
+        return Place::At(home);
     }
-    behind(address, i)
+    if phase < 5 {
+        return Place::At(home);
+    }
+    if 7 < phase {
+        return Place::At(home);
+    }
+    if i < index {
+        let moved = dest as usize + i as usize;
+        return Place::At(moved);
+    }
+    if index < i {
+        return Place::At(home);
+    }
+    if phase < 6 {
+        return Place::At(home);
+    }
+    Place::Copy
 }
 
 // Whether a place is the copy register or an address below m.

@@ -1,5 +1,5 @@
--- Where a word is, as document 01's table of answers speaks of it: in the copy register, moved already, or at its tuple's address; and
--- what follows for an address at or above M. Assumes nothing.
+-- Where a word is, as document 01's table of answers speaks of it: in the copy register, moved already, or at its tuple's address, with
+-- a law for each of the three; and what follows for an address at or above M. Assumes nothing.
 use Prim.Native.Nat.{ℕ, _+_, _≤_, _<_}
 use mathlib.Core.Bool.{Bool, true, false, _&&_, true≢false}
 use mathlib.Core.Logic.{_⊎_, inl, inr}
@@ -71,6 +71,32 @@ where-is h i b = go (true? (copied h i b)) (true? (moved h i b))
     go (inl c) m = in-copy (copied-is h i b c) (simp c)
     go (inr c) (inl m) = at-dest (not-copied c) (moved-is h i b m) (simp (c, m))
     go (inr c) (inr m) = at-address (not-copied c) (not-moved m) (simp (c, m))
+
+-- ---- its three cases
+
+pub place-copied : (h i : ℕ) (b : Box) → InCopy h i b → place h i b ≡ copy-place
+place-copied h i b x = go (where-is h i b)
+  where
+    go : Where h i b → place h i b ≡ copy-place
+    go (in-copy c p) = p
+    go (at-dest c m p) = absurd (c x)
+    go (at-address c m p) = absurd (c x)
+
+pub place-moved : (h i : ℕ) (b : Box) → Moved h i b → place h i b ≡ at (b .collector .dest + i)
+place-moved h i b x = go (where-is h i b)
+  where
+    go : Where h i b → place h i b ≡ at (b .collector .dest + i)
+    go (in-copy c p) = absurd (omega (arith, c .2, x .1))
+    go (at-dest c m p) = p
+    go (at-address c m p) = absurd (m x)
+
+pub place-home : (h i : ℕ) (b : Box) → ¬ InCopy h i b → ¬ Moved h i b → place h i b ≡ at (address h b + i)
+place-home h i b x y = go (where-is h i b)
+  where
+    go : Where h i b → place h i b ≡ at (address h b + i)
+    go (in-copy c p) = absurd (x c)
+    go (at-dest c m p) = absurd (y m)
+    go (at-address c m p) = p
 
 -- ---- an address at or above M
 
