@@ -101,7 +101,7 @@ module _ (m h : ℕ) (b : Box) (t : History) (l : Log) (k : Good m h b t l) wher
   by_view q w (Asked.stores_unmarked {r} {s = i} {k = n} s u lr li th d p a y x f e) =
       carried e
       (good_store_shaded m h b t l k u r i n lr li th d p a)
-  by_view q w (Asked.Gives_size {r} {s = i} s u lr li d y e) =
+  by_view q w (Asked.gives_size {r} {s = i} s u lr li d y e) =
       carried e
       (good_register m h b t l k u (Size r i) r (data_word (size_of (named i b) b))
       (register_takes_data b g k.inv r (size_of (named i b) b) lr)

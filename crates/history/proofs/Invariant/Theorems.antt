@@ -138,7 +138,7 @@ never_nine_request q b g v = go (asked q b)
     go (Asked.stores_late f h l u t n o e) = done e
     go (Asked.stores_marked f h l u t n a z x k e) = done e
     go (Asked.stores_unmarked f h l u t n a z x k i e) = done e
-    go (Asked.Gives_size f h l u n x e) = done e
+    go (Asked.gives_size f h l u n x e) = done e
     go (Asked.gives_nil_size f h l u n x e) = done e
     go (Asked.gives_tag f h l u n x i e) = done e
     go (Asked.gives_nil_tag f h l u n x e) = done e
@@ -171,7 +171,7 @@ invariant_request q b g w v = go w (asked q b)
           phase_least = a;
           phase_most = z;
         }))
-    go w (Asked.Gives_size {r} {s} f h l u n x e) = done e g (register_takes_data b g v r (size_of (named s b) b) l)
+    go w (Asked.gives_size {r} {s} f h l u n x e) = done e g (register_takes_data b g v r (size_of (named s b) b) l)
     go w (Asked.gives_nil_size {r} f h l u n x e) = done e g (register_takes_data b g v r 0 l)
     go w (Asked.gives_tag {r} {s} f h l u n x i e) = done e g (register_takes_data b g v r (tag_of (read (place (named s b) 0 b) b)) l)
     go w (Asked.gives_nil_tag {r} f h l u n x e) = done e g (register_takes_data b g v r 0 l)

@@ -103,7 +103,7 @@ gives q b (Asked.stores_marked {r} {s = i} {k} s u l m th d p a y t e) =
     by (Store r i k) b e (stored r i k b s u l m th (λ x. marked_shadable (named r b) b y t x.3))
 gives q b (Asked.stores_unmarked {r} {s = i} {k} s u l m th d p a y t f e) =
     by (Store r i k) b e (stored r i k b s u l m th (λ x. unmarked_shadable (named r b) b y f x.3))
-gives q b (Asked.Gives_size {r} {s = i} s u l m d y e) =
+gives q b (Asked.gives_size {r} {s = i} s u l m d y e) =
     by (Size r i) b e
     (came (Size r i) b 0 s u (both_registers r i l m) (passed (no_tuple_data i b d) (passed (λ x. x.1 y) (given refl))))
 gives q b (Asked.gives_nil_size {r} {s = i} s u l m d y e) =
@@ -229,7 +229,7 @@ refused q b (Asked.stores_data s u l m th d e) x = absurd (refused_zero _ b _ e 
 refused q b (Asked.stores_late s u l m th d p e) x = absurd (refused_zero _ b _ e x)
 refused q b (Asked.stores_marked s u l m th d p a y t e) x = absurd (refused_zero _ b _ e x)
 refused q b (Asked.stores_unmarked s u l m th d p a y t f e) x = absurd (refused_zero _ b _ e x)
-refused q b (Asked.Gives_size s u l m d y e) x = absurd (refused_zero _ b _ e x)
+refused q b (Asked.gives_size s u l m d y e) x = absurd (refused_zero _ b _ e x)
 refused q b (Asked.gives_nil_size s u l m d y e) x = absurd (refused_zero _ b _ e x)
 refused q b (Asked.gives_tag s u l m d y p e) x = absurd (refused_zero _ b _ e x)
 refused q b (Asked.gives_nil_tag s u l m d y e) x = absurd (refused_zero _ b _ e x)
