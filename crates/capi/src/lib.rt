@@ -1,6 +1,7 @@
 // The C interface, for C and Rust to link: the memory unit's calls, and in strings.rt the reader and the writer of records. Each call
 // of the memory unit lends the state as three arrays (crate lent says what stands where) and the seven columns. A C caller sees to it
 // that flags are 0 or 1, that the arrays have their lengths, and that no two of the lent parts overlap; whatever they hold is right.
+#![tactic(auto)]
 
 mod strings;
 

@@ -3,7 +3,7 @@ use crate::show::number;
 use rules::Request;
 
 // The box, and what the last call answered.
-#[derive(Drop)]
+#[derive(Clone, Copy)]
 pub struct Bench {
     pub answer: u32,
     pub numbers: [u32; 22],
@@ -19,7 +19,7 @@ pub struct Bench {
 }
 
 // The box after some steps, and how many.
-#[derive(Drop)]
+#[derive(Clone, Copy)]
 struct Ran {
     bench: Bench,
     steps: u32,

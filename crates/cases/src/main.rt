@@ -1,5 +1,7 @@
 // Runs the bench cases of document 01 on the proved memory unit, each from an opening of 16 words
 // and 4 entries. A case gives one line: its name, what the opening and each call answered, and what is then seen.
+#![tactic(auto)]
+
 mod bench;
 mod show;
 

@@ -1,5 +1,7 @@
 // The collector's rules on a struct by value and the lent columns, and what they share with the requests: shading, and a new
 // tuple. Each method is the rule of that name in crate rules.
+#![tactic(auto)]
+
 mod cycle;
 mod mark;
 mod place;

@@ -1,6 +1,6 @@
 // What a rule of the collector needs beside the columns: the numbers of a box, without its registers. It goes in by value and
 // comes back by value. Any field may hold any value: a rule that cannot be carried out answers 9.
-#[derive(Drop)]
+#[derive(Clone, Copy)]
 pub struct State {
     // The sizes stated at the opening: M words and H directory entries.
     pub m: u32,
@@ -32,7 +32,7 @@ pub struct State {
 }
 
 // What a rule leaves, and its answer: a number of document 01.
-#[derive(Drop)]
+#[derive(Clone, Copy)]
 pub struct Answered {
     pub state: State,
     pub answer: u32,

@@ -2,6 +2,8 @@
 // time. All of it is lent: the state as three arrays (crate lent says what stands where), and seven columns, in this order
 // everywhere: words, flags (M each; flag true means pointer), addresses, sizes, links, marks, deeps (H each). What each call does
 // is said in crate rules; none of them requires anything of its caller.
+#![tactic(auto)]
+
 mod asking;
 mod fill;
 mod opening;

@@ -12,7 +12,7 @@ use collector::Word;
 use lent::register;
 
 // What a look found: the handle that the first register not passed over names, which may be no entry, or nothing.
-#[derive(Drop)]
+#[derive(Clone, Copy)]
 pub struct Root {
     pub there: bool,
     pub handle: u32,

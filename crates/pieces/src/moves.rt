@@ -11,7 +11,7 @@ use crate::place::{Deed, Place};
 use record::{Asked, Entry, fault_of, record_at, request_of};
 
 // A deed, where the playing then stands, and the place behind what was read; or nothing can be done with the bytes at hand.
-#[derive(Drop)]
+#[derive(Clone, Copy)]
 pub enum Move {
     Go {
         deed: Deed,

@@ -1,7 +1,7 @@
 // Where the playing of a record stands between two pieces, and what is to be done next.
 use rules::Request;
 
-#[derive(Drop)]
+#[derive(Clone, Copy)]
 pub struct Place {
     // 0 nothing is read yet, 1 opened and playing, 2 only reading after a 10, 3 at the end, 4 over.
     pub stage: u32,
@@ -13,7 +13,7 @@ pub struct Place {
     pub opened: bool,
 }
 
-#[derive(Drop)]
+#[derive(Clone, Copy)]
 pub enum Deed {
     // Print this number.
     Say(u32),

@@ -1,6 +1,8 @@
 // Plays a record: reads it from standard input to its end, in pieces, and prints each answer in decimal, one a line. A string that is
 // refused prints the refusal as its last line. What is read and what is printed is the operating system's; all between is `player::play`,
 // whose promise says it all. The box's columns are as large as the largest box.
+#![tactic(auto)]
+
 ghost use Rattle.std.specs.Prelude.{◌≡◌, ◌+◌, ◌-◌, ◌<◌, ◌≤◌, length, take, drop};
 ghost use Rattle.lent.specs.Lent.{lent};
 ghost use Rattle.player.specs.Promises.{Plays};
@@ -11,7 +13,7 @@ use player::Place;
 
 // Where the playing stands; the bytes at hand, from one place of the input to another; whether they are the last; how many bytes of the
 // output were written; and whether more bytes are wanted.
-#[derive(Drop)]
+#[derive(Clone, Copy)]
 struct Reader {
     place: Place,
     from: usize,

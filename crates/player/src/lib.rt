@@ -1,4 +1,6 @@
 // Playing a record on the memory unit, in pieces: the public call.
+#![tactic(auto)]
+
 mod calls;
 
 pub use calls::play;

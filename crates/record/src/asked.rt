@@ -7,7 +7,7 @@ ghost use Rattle.record.specs.Asked.{asked_as};
 use rules::Request;
 
 // A request of the memory unit, or numbers that say none: an unknown kind, or a 16-bit field above 65,535.
-#[derive(Drop)]
+#[derive(Clone, Copy)]
 pub enum Asked {
     Known(Request),
     Unknown,

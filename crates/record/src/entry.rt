@@ -6,7 +6,7 @@ ghost use Rattle.record.specs.Found.{as_number, as_entry, fault_of, fields_in, l
 use crate::number::{Number, number_at, refusal};
 
 // What was read whole: a kind or an edition, its fields, 0 for those that it does not have, and the place behind it; or what refuses it.
-#[derive(Drop)]
+#[derive(Clone, Copy)]
 pub enum Entry {
     Whole {
         kind: u32,

@@ -1,4 +1,6 @@
 // The record of a run: its numbers as bytes, its reader and its writer, and the request that a record's kind and fields ask for.
+#![tactic(auto)]
+
 mod asked;
 mod entry;
 mod number;

@@ -4,7 +4,7 @@ ghost use Rattle.record.specs.Number.{more_groups, number};
 ghost use Rattle.record.specs.Found.{as_number, refusal_of};
 
 // A number and the place behind it, or what refuses it.
-#[derive(Drop)]
+#[derive(Clone, Copy)]
 pub enum Number {
     Found(u32, usize),
     Refused(u32),

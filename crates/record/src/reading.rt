@@ -7,7 +7,7 @@ ghost use Rattle.record.specs.Turns.{size_of, put_at, stopped, Fit, Turned};
 use crate::entry::{Entry, fault_of, head_of, record_at};
 
 // How many numbers were read, and the answer.
-#[derive(Drop)]
+#[derive(Clone, Copy)]
 pub struct Got {
     pub count: usize,
     pub answer: u32,
@@ -15,7 +15,7 @@ pub struct Got {
 
 // What goes from record to record: the place of the next byte and of the next number, how many records were read, and the answer
 // where there is no going on.
-#[derive(Drop)]
+#[derive(Clone, Copy)]
 struct Turn {
     going: bool,
     at: usize,

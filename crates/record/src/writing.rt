@@ -7,21 +7,21 @@ ghost use Rattle.record.specs.WritingSteps.{Puts, Takes, Limited, store, given_b
 ghost use Rattle.record.specs.Promises.{Writes};
 
 // How many bytes were written, and the answer.
-#[derive(Drop)]
+#[derive(Clone, Copy)]
 pub struct Wrote {
     pub count: usize,
     pub answer: u32,
 }
 
 // The fields of an edition or a kind: how many, and the largest number for each. With none there is no such edition or kind.
-#[derive(Drop)]
+#[derive(Clone, Copy)]
 struct Limits {
     count: usize,
     most: [u32; 3],
 }
 
 // After an entry: where the next number is, the place behind the bytes, and the answer.
-#[derive(Drop)]
+#[derive(Clone, Copy)]
 struct Took {
     next: usize,
     end: usize,

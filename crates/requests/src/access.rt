@@ -12,7 +12,7 @@ use crate::place::{find_place, in_memory, read};
 use collector::{State, Word};
 
 // A word that a request finds, or the answer that refuses it.
-#[derive(Drop)]
+#[derive(Clone, Copy)]
 pub enum Got {
     Given(Word),
     Refused(u32),

@@ -10,7 +10,7 @@ use crate::place::{Place, find_place, in_memory};
 use collector::{State, Word};
 
 // What a word names: a tuple that can be looked up, nil, or neither, with the answer that refuses it.
-#[derive(Drop)]
+#[derive(Clone, Copy)]
 pub enum Named {
     Tuple(u32),
     Nil,
@@ -18,7 +18,7 @@ pub enum Named {
 }
 
 // A word of a tuple, by the tuple's handle and the word's place, or the answer that refuses it.
-#[derive(Drop)]
+#[derive(Clone, Copy)]
 pub enum Found {
     Slot(u32, Place),
     NotFound(u32),

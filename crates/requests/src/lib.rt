@@ -1,5 +1,7 @@
 // The ten requests on the lent parts, each for registers that are 0 to 7 in a sound box; and any request of a box of which it is known
 // whether it is sound.
+#![tactic(auto)]
+
 mod access;
 mod data;
 mod find;

@@ -8,7 +8,7 @@ ghost use Rattle.requests.specs.Found.{place_of, Within};
 use collector::{State, Word};
 
 // The copy register, or an address, which may lie outside memory.
-#[derive(Drop)]
+#[derive(Clone, Copy)]
 pub enum Place {
     Copy,
     At(usize),

@@ -1,4 +1,6 @@
 // The collector's single steps and runs on the lent parts.
+#![tactic(auto)]
+
 mod running;
 mod stepping;
 

@@ -7,7 +7,7 @@ use crate::stepping::{choose, steps};
 use lent::sound;
 
 // A run's answer, and the number of single steps from its first state to its last.
-#[derive(Drop)]
+#[derive(Clone, Copy)]
 pub struct Ran {
     pub answer: u32,
     pub steps: u32,

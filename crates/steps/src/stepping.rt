@@ -37,7 +37,7 @@ pub fn stepped(
 }
 
 // How many steps were done, those that answer 9 not counted, and what the last one answered.
-#[derive(Drop)]
+#[derive(Clone, Copy)]
 pub struct Went {
     pub steps: u32,
     pub answer: u32,

@@ -16,7 +16,7 @@ use trace::step_lines;
 
 // What a piece left: where the playing stands, how many bytes of the input were used and of the output written, and whether nothing can
 // be done with the bytes that are left.
-#[derive(Drop)]
+#[derive(Clone, Copy)]
 pub struct Went {
     pub place: Place,
     pub used: usize,
@@ -25,7 +25,7 @@ pub struct Went {
 }
 
 // The same after one turn, and whether there may be another.
-#[derive(Drop)]
+#[derive(Clone, Copy)]
 struct Turn {
     place: Place,
     used: usize,
