@@ -27,7 +27,7 @@ returns-in-Copy c hd ads ss ls ms =
     let d : Box = lent a.numbers.now a.switches.now hd a.words.now a.flags.now ads ss ls ms j.deeps in
     let k = copy_put w a.numbers.now u.new.numbers a.switches.now u.new.switches c.put_copy-arg-1.given.0.1 c.put_copy-arg-in-Copy-1.given.0.1 u.ensures.numbers_after u.ensures.switches_after hd a.words.now a.flags.now ads ss ls ms j.deeps ∙ write_copy a.p d w c.in-Copy.is in
     elim j.branch [
-      then-names_tuple o ↦ put_deep w a.h p b _ t.result j.deeps t.ensures k o.if-names_tuple.true o.deeps-is
+      | then-names_tuple o ↦ put_deep w a.h p b _ t.result j.deeps t.ensures k o.if-names_tuple.true o.deeps-is
       | else-names_tuple o ↦ put_flat w a.h p b _ t.result j.deeps t.ensures k o.if-names_tuple.false o.deeps-is
     ]
 
@@ -42,6 +42,6 @@ returns-in-At c hd ads ss ls ms =
     let d : Box = lent a.numbers.now a.switches.now hd a.words.now a.flags.now ads ss ls ms j.deeps in
     let k = write_at a.p c.in-At.a d w c.in-At.is in
     elim j.branch [
-      then-names_tuple o ↦ put_deep w a.h p b _ t.result j.deeps t.ensures k o.if-names_tuple.true o.deeps-is
+      | then-names_tuple o ↦ put_deep w a.h p b _ t.result j.deeps t.ensures k o.if-names_tuple.true o.deeps-is
       | else-names_tuple o ↦ put_flat w a.h p b _ t.result j.deeps t.ensures k o.if-names_tuple.false o.deeps-is
     ]
