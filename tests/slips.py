@@ -9,7 +9,7 @@ claim and one short list of calls a contradiction is proved. Without a slip dema
 In the copy the laws of the rules that the proof cites stand among its own files, so that a slip is seen at the lemma where it
 is first refused. specs/Played.antt is left out: like the bench cases, it is what the definitions compute.
 
-    tests/slips.py            the control and every slip: a few minutes
+    tests/slips.py            the control and every slip: five minutes
     tests/slips.py 3 4a       these alone
 
 Only definitions and proofs about them are looked at, and no code.

@@ -5,7 +5,7 @@ Each wrong machine is made, one at a time, in the definitions of a copy of crate
 false: from `Demand1` of one box a contradiction follows, by computing. So no proof of demand 1 can be found there, whatever its lemmas.
 Without the edits each of these proofs is refused.
 
-    tests/wrong_machines.py            the control and every machine: half a minute
+    tests/wrong_machines.py            the control and every machine: two minutes
     tests/wrong_machines.py 3 4        these alone
 
 Only definitions are looked at, and no code.
