@@ -29,12 +29,14 @@ numbers f (h ∷ hs) = f h ∷ numbers f hs
 
 pub numbers_in : (f : ℕ → ℕ) (hs : List ℕ) (h : ℕ) → Member h hs → Member (f h) (numbers f hs)
 unfolding numbers
+numbers_in f [] h m = elim m [ ]
 numbers_in f (x ∷ hs) h (inl e) = inl (ap f e)
 numbers_in f (x ∷ hs) h (inr m) = inr (numbers_in f hs h m)
 
 -- the handle that has a number of the list
 pub numbers_of : (f : ℕ → ℕ) (hs : List ℕ) (i : ℕ) → Member i (numbers f hs) → (h : ℕ) × Member h hs × (f h ≡ i)
 unfolding numbers
+numbers_of f [] i m = elim m [ ]
 numbers_of f (x ∷ hs) i (inl e) = (x, inl refl, sym e)
 numbers_of f (x ∷ hs) i (inr m) = let r = numbers_of f hs i m in (r.0, inr r.1, r.2)
 

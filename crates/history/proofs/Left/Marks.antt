@@ -146,7 +146,9 @@ shaded b g c g' h v w l k s m f =
     by_listing (listed_first e n) =
         inr
         (nexts_fixed c g' (h ∷ g.scans.nexts) w pushed
-        (rw (e, n) (chain_push b.directory.links b.collector.next g.scans.nexts h v.marks.nexts_chain (λ x. waits_not (nexts_listed g.scans h x)) within_links)))
+        (subst (λ (l : List ℕ). Chain l c.collector.next (h ∷ g.scans.nexts)) (sym e)
+        (subst (λ (k : ℕ). Chain (set b.directory.links h b.collector.next) k (h ∷ g.scans.nexts)) (sym n)
+        (chain_push b.directory.links b.collector.next g.scans.nexts h v.marks.nexts_chain (λ x. waits_not (nexts_listed g.scans h x)) within_links))))
 
     by_links : Listing b c h → g'.scans.currents ≡ g.scans.currents
     by_links (unlisted e n) = same_currents b g c g' v w e s.current_is

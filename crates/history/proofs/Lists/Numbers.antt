@@ -23,6 +23,7 @@ remove x (y ∷ ys) = pick (ℕ_discrete x y) ys (y ∷ remove x ys)
 
 pub remove_length : (x : ℕ) (xs : List ℕ) → Member x xs → length xs ≡ suc (length (remove x xs))
 unfolding remove pick
+remove_length x [] m = elim m [ ]
 remove_length x (y ∷ ys) m = go (ℕ_discrete x y) (remove_length x ys)
   where
     go : (d : Dec (x ≡ y)) → (Member x ys → length ys ≡ suc (length (remove x ys))) → suc (length ys) ≡ suc (length (pick d ys (y ∷ remove x ys)))
@@ -98,6 +99,7 @@ remove_other x z (y ∷ ys) n m = go (ℕ_discrete x y) (remove_other x z ys n) 
 
 pub remove_room : (x : ℕ) (xs : List ℕ) (t : History) → Member x xs → room xs t ≡ size_at x t + 1 + room (remove x xs) t
 unfolding remove pick room
+remove_room x [] t m = elim m [ ]
 remove_room x (y ∷ ys) t m = go (ℕ_discrete x y) (remove_room x ys t) m
   where
     go : (d : Dec (x ≡ y)) → (Member x ys → room ys t ≡ size_at x t + 1 + room (remove x ys) t) → (x ≡ y) ⊎ Member x ys

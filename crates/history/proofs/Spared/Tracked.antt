@@ -101,6 +101,7 @@ module _ (b : Box) (p : Plan) (m : History) (given : List ℕ) (number : ℕ →
 
 -- the members of a chain are listed along the links
 pub chain_listed : (b : Box) (head : ℕ) (hs : List ℕ) (x : ℕ) → Chain b.directory.links head hs → ((h : ℕ) → Member h hs → 1 ≤ h) → Member x hs → Listed b x head
+chain_listed b head [] x c f m = elim m [ ]
 chain_listed b head (h ∷ hs) x c f (inl e) = subst (λ (y : ℕ). Listed b x y) (e ∙ sym c.0) (here (let l : 1 ≤ h = f h (inl refl) in omega arith))
 chain_listed b head (h ∷ hs) x c f (inr m) = subst (λ (y : ℕ). Listed b x y) (sym c.0) (later h (let l : 1 ≤ h = f h (inl refl) in omega arith) (chain_listed b (link h b) hs x c.1 (λ y z. f y (inr z)) m))
 

@@ -29,12 +29,12 @@ sweep_ghosts low base zeroed ds hs free = record { plan = sweep_plan low base ds
 
 -- no tuple waits for a scan
 abbrev pub unlisted : (low base zeroed : ℕ) (ds hs free : List ℕ) → Unlisted (sweep_ghosts low base zeroed ds hs free)
-unlisted low base zeroed ds hs free = record { no_nexts = refl; no_currents = refl; no_gray = refl }
+unlisted low base z ds hs free = record { no_nexts = refl; no_currents = refl; no_gray = refl }
 
 ghosts_are : (g : Ghosts) (low base zeroed : ℕ) (hs : List ℕ) → Unlisted g → g.plan.mid ≡ [] → g.plan.low ≡ low → g.plan.base ≡ base
     → g.zeroed ≡ zeroed → g.plan.ahead ≡ hs
     → g ≡ sweep_ghosts low base zeroed g.plan.done hs g.free
-ghosts_are g low base zeroed hs u m l s z a = λ i. record { plan = record { done = g.plan.done; mid = m i; ahead = a i; low = l i; base = s i }; free = g.free; scans = record { nexts = u.no_nexts i; currents = u.no_currents i; gray = u.no_gray i }; zeroed = z i }
+ghosts_are g low base y hs u m l s z a = λ i. record { plan = record { done = g.plan.done; mid = m i; ahead = a i; low = l i; base = s i }; free = g.free; scans = record { nexts = u.no_nexts i; currents = u.no_currents i; gray = u.no_gray i }; zeroed = z i }
 
 -- ---- phase 4: the tuple under the sweep is the first ahead, at src
 
