@@ -12,11 +12,9 @@ returns-in_default c = rw (c.refusal.ensures, first_refused c.args.bytes.now c.a
 pub returns-in_default-l : goal.returns-in_default-l
 returns-in_default-l c =
     let a = c.args in
-    let n = c.n-1.given in
-    two_refused a.bytes.now a.at a.edition most16 most16 _ _ c.field_at-n.ensures _ _ n.1 c.field_at-l.ensures _ c.in_default-l.is _ c.refusal-in_default-l.ensures
+    two_refused a.bytes.now a.at a.edition most16 most16 _ _ c.field_at-n.ensures _ _ c.in-Found.is c.field_at-l.ensures _ c.in_default-l.is _ c.refusal-in_default-l.ensures
 
 pub returns : goal.returns
 returns c =
     let a = c.args in
-    let n = c.n-1.given in
-    two_whole a.bytes.now a.at a.edition most16 most16 _ _ c.field_at-n.ensures _ _ n.1 c.field_at-l.ensures _ _ c.in-Found-l.is
+    two_whole a.bytes.now a.at a.edition most16 most16 _ _ c.field_at-n.ensures _ _ c.in-Found.is c.field_at-l.ensures _ _ c.in-Found-l.is

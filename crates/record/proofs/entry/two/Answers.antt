@@ -12,11 +12,9 @@ returns-in_default c = rw (c.refusal.ensures, first_refused c.args.bytes.now c.a
 pub returns-in_default-m : goal.returns-in_default-m
 returns-in_default-m c =
     let a = c.args in
-    let n = c.n-1.given in
-    two_refused a.bytes.now a.at a.kind most16 a.limit _ _ c.field_at-n.ensures _ _ n.1 c.field_at-m.ensures _ c.in_default-m.is _ c.refusal-in_default-m.ensures
+    two_refused a.bytes.now a.at a.kind most16 a.limit _ _ c.field_at-n.ensures _ _ c.in-Found.is c.field_at-m.ensures _ c.in_default-m.is _ c.refusal-in_default-m.ensures
 
 pub returns : goal.returns
 returns c =
     let a = c.args in
-    let n = c.n-1.given in
-    two_whole a.bytes.now a.at a.kind most16 a.limit _ _ c.field_at-n.ensures _ _ n.1 c.field_at-m.ensures _ _ c.in-Found-m.is
+    two_whole a.bytes.now a.at a.kind most16 a.limit _ _ c.field_at-n.ensures _ _ c.in-Found.is c.field_at-m.ensures _ _ c.in-Found-m.is

@@ -13,27 +13,23 @@ returns-in_default c =
 pub returns-then-kind-eq0 : goal.returns-then-kind-eq0
 returns-then-kind-eq0 c =
     let a = c.args in
-    let v = c.e-1.given.0 in
-    let s = record_stands a.bytes.now a.t.at c.record_at-e.result c.record_at-e.ensures v.0 v.1.0 v.1.1.0 v.1.1.1.0 v.1.1.1.1.0 c.in-Whole.is in
-    turn_end a.bytes.now a.numbers.now a.t c.requires.0 c.requires.1 v.0 v.1.0 v.1.1.0 v.1.1.1.0 v.1.1.1.1.0 s c.if-kind-eq0.true c.ending.result c.ending.ensures c.ended-then-kind-eq0.result c.ended-then-kind-eq0.ensures
+    let s = record_stands a.bytes.now a.t.at c.record_at-e.result c.record_at-e.ensures c.in-Whole.kind c.in-Whole.a c.in-Whole.b c.in-Whole.c c.in-Whole.next c.in-Whole.is in
+    turn_end a.bytes.now a.numbers.now a.t c.requires.0 c.requires.1 c.in-Whole.kind c.in-Whole.a c.in-Whole.b c.in-Whole.c c.in-Whole.next s c.if-kind-eq0.true c.ending.result c.ending.ensures c.ended-then-kind-eq0.result c.ended-then-kind-eq0.ensures
 
 pub put-requires : goal.put-requires
 put-requires c =
     let a = c.args in
-    let v = c.e-1.given.0 in
-    let s = record_stands a.bytes.now a.t.at c.record_at-e.result c.record_at-e.ensures v.0 v.1.0 v.1.1.0 v.1.1.1.0 v.1.1.1.1.0 c.in-Whole.is in
-    size_fits a.bytes.now a.numbers.now a.t c.requires.0 c.requires.1 v.0 v.1.0 v.1.1.0 v.1.1.1.0 v.1.1.1.1.0 s c.size_of-size.result c.size_of-size.ensures
+    let s = record_stands a.bytes.now a.t.at c.record_at-e.result c.record_at-e.ensures c.in-Whole.kind c.in-Whole.a c.in-Whole.b c.in-Whole.c c.in-Whole.next c.in-Whole.is in
+    size_fits a.bytes.now a.numbers.now a.t c.requires.0 c.requires.1 c.in-Whole.kind c.in-Whole.a c.in-Whole.b c.in-Whole.c c.in-Whole.next s c.size_of-size.result c.size_of-size.ensures
 
 pub overflow_add-result : goal.overflow_add-result
 overflow_add-result c =
     let a = c.args in
-    let v = c.e-1.given.0 in
-    let s = record_stands a.bytes.now a.t.at c.record_at-e.result c.record_at-e.ensures v.0 v.1.0 v.1.1.0 v.1.1.1.0 v.1.1.1.1.0 c.in-Whole.is in
-    omega (arith, c.well-formed, places_fit a.bytes.now a.numbers.now a.t c.requires.0 c.requires.1 v.0 v.1.0 v.1.1.0 v.1.1.1.0 v.1.1.1.1.0 s c.size_of-size.result c.size_of-size.ensures)
+    let s = record_stands a.bytes.now a.t.at c.record_at-e.result c.record_at-e.ensures c.in-Whole.kind c.in-Whole.a c.in-Whole.b c.in-Whole.c c.in-Whole.next c.in-Whole.is in
+    omega (arith, c.well-formed, places_fit a.bytes.now a.numbers.now a.t c.requires.0 c.requires.1 c.in-Whole.kind c.in-Whole.a c.in-Whole.b c.in-Whole.c c.in-Whole.next s c.size_of-size.result c.size_of-size.ensures)
 
 pub returns : goal.returns
 returns c =
     let a = c.args in
-    let v = c.e-1.given.0 in
-    let s = record_stands a.bytes.now a.t.at c.record_at-e.result c.record_at-e.ensures v.0 v.1.0 v.1.1.0 v.1.1.1.0 v.1.1.1.1.0 c.in-Whole.is in
-    turn_item a.bytes.now a.numbers.now a.t c.requires.0 c.requires.1 v.0 v.1.0 v.1.1.0 v.1.1.1.0 v.1.1.1.1.0 s c.size_of-size.result c.size_of-size.ensures c.if-kind-eq0.false c.put.new.numbers c.put.ensures c.put.auto.0
+    let s = record_stands a.bytes.now a.t.at c.record_at-e.result c.record_at-e.ensures c.in-Whole.kind c.in-Whole.a c.in-Whole.b c.in-Whole.c c.in-Whole.next c.in-Whole.is in
+    turn_item a.bytes.now a.numbers.now a.t c.requires.0 c.requires.1 c.in-Whole.kind c.in-Whole.a c.in-Whole.b c.in-Whole.c c.in-Whole.next s c.size_of-size.result c.size_of-size.ensures c.if-kind-eq0.false c.put.new.numbers c.put.ensures c.put.auto.0
