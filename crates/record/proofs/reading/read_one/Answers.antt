@@ -26,10 +26,10 @@ pub overflow_add-result : goal.overflow_add-result
 overflow_add-result c =
     let a = c.args in
     let s = record_stands a.bytes.now a.t.at c.record_at-e.result c.record_at-e.ensures c.in-Whole.kind c.in-Whole.a c.in-Whole.b c.in-Whole.c c.in-Whole.next c.in-Whole.is in
-    omega (arith, c.well-formed, places_fit a.bytes.now a.numbers.now a.t c.requires.0 c.requires.1 c.in-Whole.kind c.in-Whole.a c.in-Whole.b c.in-Whole.c c.in-Whole.next s c.size_of-size.result c.size_of-size.ensures)
+    omega (arith, c.well_formed, places_fit a.bytes.now a.numbers.now a.t c.requires.0 c.requires.1 c.in-Whole.kind c.in-Whole.a c.in-Whole.b c.in-Whole.c c.in-Whole.next s c.size_of-size.result c.size_of-size.ensures)
 
 pub returns : goal.returns
 returns c =
     let a = c.args in
     let s = record_stands a.bytes.now a.t.at c.record_at-e.result c.record_at-e.ensures c.in-Whole.kind c.in-Whole.a c.in-Whole.b c.in-Whole.c c.in-Whole.next c.in-Whole.is in
-    turn_item a.bytes.now a.numbers.now a.t c.requires.0 c.requires.1 c.in-Whole.kind c.in-Whole.a c.in-Whole.b c.in-Whole.c c.in-Whole.next s c.size_of-size.result c.size_of-size.ensures c.if-kind-eq0.false c.put.new.numbers c.put.ensures c.put.auto.0
+    turn_item a.bytes.now a.numbers.now a.t c.requires.0 c.requires.1 c.in-Whole.kind c.in-Whole.a c.in-Whole.b c.in-Whole.c c.in-Whole.next s c.size_of-size.result c.size_of-size.ensures c.if-kind-eq0.false c.put.new.numbers c.put.ensures c.put.auto.numbers
