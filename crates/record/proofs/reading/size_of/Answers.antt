@@ -1,0 +1,57 @@
+-- `size_of` meets its contract: the table of kinds computes at each of its numbers, and has no more. Assumes nothing.
+use Rattle.record.specs.Fields.{row, kinds}
+use Rattle.record.specs.Turns.{size_of}
+use Rattle.record.proofs.KindTable.{none_of_these}
+use Rattle.record.proofs.reading.size_of.Goals as goal
+
+pub returns-in-0 : goal.returns-in-0
+unfolding size_of kinds row
+returns-in-0 c = rw c.in-0.is
+
+pub returns-in-1 : goal.returns-in-1
+unfolding size_of kinds row
+returns-in-1 c = rw c.in-1.is
+
+pub returns-in-2 : goal.returns-in-2
+unfolding size_of kinds row
+returns-in-2 c = rw c.in-2.is
+
+pub returns-in-3 : goal.returns-in-3
+unfolding size_of kinds row
+returns-in-3 c = rw c.in-3.is
+
+pub returns-in-4 : goal.returns-in-4
+unfolding size_of kinds row
+returns-in-4 c = rw c.in-4.is
+
+pub returns-in-5 : goal.returns-in-5
+unfolding size_of kinds row
+returns-in-5 c = rw c.in-5.is
+
+pub returns-in-6 : goal.returns-in-6
+unfolding size_of kinds row
+returns-in-6 c = rw c.in-6.is
+
+pub returns-in-7 : goal.returns-in-7
+unfolding size_of kinds row
+returns-in-7 c = rw c.in-7.is
+
+pub returns-in-8 : goal.returns-in-8
+unfolding size_of kinds row
+returns-in-8 c = rw c.in-8.is
+
+pub returns-in-9 : goal.returns-in-9
+unfolding size_of kinds row
+returns-in-9 c = rw c.in-9.is
+
+pub returns-in-10 : goal.returns-in-10
+unfolding size_of kinds row
+returns-in-10 c = rw c.in-10.is
+
+pub returns-in-11 : goal.returns-in-11
+unfolding size_of kinds row
+returns-in-11 c = rw c.in-11.is
+
+pub returns-in_default : goal.returns-in_default
+unfolding size_of
+returns-in_default c = let r = c.in_default.in_default-own.rest in rw (none_of_these c.args.kind (r.0.0.0.0.0.0.0.0.0.0.0.1, (r.0.0.0.0.0.0.0.0.0.0.1, (r.0.0.0.0.0.0.0.0.0.1, (r.0.0.0.0.0.0.0.0.1, (r.0.0.0.0.0.0.0.1, (r.0.0.0.0.0.0.1, (r.0.0.0.0.0.1, (r.0.0.0.0.1, (r.0.0.0.1, (r.0.0.1, (r.0.1, (r.1, tt)))))))))))))

@@ -1,0 +1,30 @@
+-- `writing::put_records` meets its contract. The loop's invariant: what is stored and what the records left give are together what all
+-- records give. The measure is how many numbers are left. Assumes nothing.
+use Prim.Native.Nat.{◌-◌}
+use mathlib.Core.Path.{◌≡◌, refl, ◌∙◌}
+use native.Mathlib.Omega.{arith}
+use lib.ListN.{length}
+use Rattle.record.proofs.WritingRecords.{Recorded, records_start, records_turn, records_stop, records_end}
+use Rattle.record.proofs.writing.put_records.Goals as goal
+
+pub returns-then-answer-ne0 : goal.returns-then-answer-ne0
+returns-then-answer-ne0 c =
+    let a = c.args in
+    let v = c.loop-next in
+    let l = c.record_limits-fields in
+    let e = c.put_entry-took in
+    records_stop a.numbers.now a.bytes.now v.bytes a.at a.to v.next v.end v.records v.invariant.1 l.result.count l.result.most e.new.bytes e.result.next e.result.end e.result.answer c.loop-next-test.true l.ensures e.ensures c.if-answer-ne0.true
+
+pub loop-next-preserved : goal.loop-next-preserved
+loop-next-preserved c =
+    let a = c.args in
+    let v = c.loop-next in
+    let l = c.record_limits-fields in
+    let e = c.put_entry-took in
+    (e.auto.bytes ∙ v.invariant.0, records_turn a.numbers.now a.bytes.now v.bytes a.at a.to v.next v.end v.records v.invariant.1 l.result.count l.result.most e.new.bytes e.result.next e.result.end e.result.answer c.loop-next-test.true l.ensures e.ensures c.if-answer-ne0.false)
+
+pub returns : goal.returns
+returns c =
+    let a = c.args in
+    let v = c.loop-next in
+    c.put_end.ensures ∙ records_end a.numbers.now a.bytes.now v.bytes a.at a.to v.next v.end v.records v.invariant.1 c.loop-next-test.false
