@@ -1,4 +1,4 @@
-// The C interface, for C and Rust to link: the memory unit's calls, and in strings.rt the reader and the writer of records. Each call
+// The C interface: the memory unit's calls, and in strings.rt the reader and the writer of records. Crate capi_c exports them. Each call
 // of the memory unit lends the state as three arrays (crate lent says what stands where) and the seven columns. A C caller sees to it
 // that flags are 0 or 1, that the arrays have their lengths, and that no two of the lent parts overlap; whatever they hold is right.
 #![tactic(auto)]
@@ -9,13 +9,13 @@ ghost use Rattle.std.specs.Prelude.{◌≡◌, ◌<◌};
 ghost use Rattle.capi.specs.Promises.{parts, Opens, Asks, Steps, Runs};
 
 use record::Asked;
+pub use strings::{gloamish_read, gloamish_write};
 
 // The answer to an unknown kind, or a 16-bit field above 65,535.
 const NOT_UNDERSTOOD: u32 = 4294967295;
 
 // Opens a box of m words and h entries, as `memory::open` does.
-#[unsafe(no_mangle)]
-pub extern "C" fn gloamish_open(
+pub fn gloamish_open(
     m: u32,
     h: u32,
     numbers: &mut [u32; 22],
@@ -38,8 +38,7 @@ pub extern "C" fn gloamish_open(
 
 // One request: its kind's number and its fields in document 01's order. Answers as `memory::request` does; an unknown kind or a
 // 16-bit field above 65,535 answers 4,294,967,295, and nothing is changed.
-#[unsafe(no_mangle)]
-pub extern "C" fn gloamish_request(
+pub fn gloamish_request(
     kind: u32,
     a: u32,
     b: u32,
@@ -66,8 +65,7 @@ pub extern "C" fn gloamish_request(
 }
 
 // One step of the collector, as `memory::step` does it.
-#[unsafe(no_mangle)]
-pub extern "C" fn gloamish_step(
+pub fn gloamish_step(
     numbers: &mut [u32; 22],
     switches: &mut [bool; 11],
     hold: &[u16; 3],
@@ -87,8 +85,7 @@ pub extern "C" fn gloamish_step(
 }
 
 // A run with a budget of steps, as `memory::run` does it. Gives steps * 256 + answer.
-#[unsafe(no_mangle)]
-pub extern "C" fn gloamish_run(
+pub fn gloamish_run(
     budget: u32,
     numbers: &mut [u32; 22],
     switches: &mut [bool; 11],

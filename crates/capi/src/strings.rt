@@ -18,8 +18,7 @@ fn few(m: usize, n: usize) -> bool
 // Reads a string of bytes, as `record::read` does: edition, M, H and each whole record's kind and fields go into the front of the lent
 // numbers, and what is given back is how many there are, times 256, plus the answer, 0 or 20 to 24. With fewer lent numbers than bytes,
 // or 2^48 elements or more in a lent part, nothing is changed and 4,294,967,295 is given back.
-#[unsafe(no_mangle)]
-pub extern "C" fn gloamish_read(bytes: &[u8], numbers: &mut [u32]) -> u64
+pub fn gloamish_read(bytes: &[u8], numbers: &mut [u32]) -> u64
     ensures { CReads bytes.now numbers.old numbers.new result }
 {
     if !few(bytes.len(), numbers.len()) {
@@ -32,8 +31,7 @@ pub extern "C" fn gloamish_read(bytes: &[u8], numbers: &mut [u32]) -> u64
 // Writes the same list of numbers as bytes, as `record::write` does, into the front of the lent bytes, and gives back how many bytes
 // there are, times 256, plus the answer, 0; or, with nothing changed, 22, 23 or 25. Where the list, with no fault before, ends inside
 // edition, M and H or inside a record, or a lent part has 2^48 elements or more, nothing is changed and 4,294,967,295 is given back.
-#[unsafe(no_mangle)]
-pub extern "C" fn gloamish_write(numbers: &[u32], bytes: &mut [u8]) -> u64
+pub fn gloamish_write(numbers: &[u32], bytes: &mut [u8]) -> u64
     ensures { CWrites numbers.now bytes.old bytes.new result }
 {
     if !few(numbers.len(), bytes.len()) {
