@@ -1,6 +1,7 @@
 // A box with its own buffers, 16 words and 4 entries, that goes through a case by value.
 use crate::show::number;
 use rules::Request;
+use std::io;
 
 // The box, and what the last call answered.
 #[derive(Clone, Copy)]
@@ -147,7 +148,7 @@ impl Bench {
     }
 
     // A run with a budget of steps; writes how many it did and its answer.
-    pub(crate) fn budget(self, most: u32) -> Bench {
+    pub(crate) fn budget(self, rt: &impl Print, most: u32) -> io::Result<Bench> {
         let mut numbers = self.numbers;
         let mut switches = self.switches;
         let hold = self.hold;
@@ -171,10 +172,10 @@ impl Bench {
             &mut marks,
             &mut deeps,
         );
-        io::write_all(1, b" steps");
-        number(done.steps);
-        number(done.answer);
-        Bench {
+        print!(rt; " steps")?;
+        number(rt, done.steps)?;
+        number(rt, done.answer)?;
+        Ok(Bench {
             answer: done.answer,
             numbers,
             switches,
@@ -186,14 +187,14 @@ impl Bench {
             links,
             marks,
             deeps,
-        }
+        })
     }
 
     // A request; writes its answer.
-    pub(crate) fn ask(self, q: Request) -> Bench {
+    pub(crate) fn ask(self, rt: &impl Print, q: Request) -> io::Result<Bench> {
         let b = self.asked(q);
-        number(b.answer);
-        b
+        number(rt, b.answer)?;
+        Ok(b)
     }
 
     // Single steps up to one that does not answer 30, at most so many, with how many were done.
@@ -211,21 +212,21 @@ impl Bench {
     }
 
     // Such steps; writes how many were done and the last answer.
-    pub(crate) fn run(self, most: u32) -> Bench {
+    pub(crate) fn run(self, rt: &impl Print, most: u32) -> io::Result<Bench> {
         let ran = self.steps(most);
         let b = ran.bench;
-        io::write_all(1, b" step");
-        number(ran.steps);
-        number(b.answer);
-        b
+        print!(rt; " step")?;
+        number(rt, ran.steps)?;
+        number(rt, b.answer)?;
+        Ok(b)
     }
 
     // Such steps; writes the last answer.
-    pub(crate) fn later(self, most: u32) -> Bench {
+    pub(crate) fn later(self, rt: &impl Print, most: u32) -> io::Result<Bench> {
         let ran = self.steps(most);
         let b = ran.bench;
-        io::write_all(1, b" later");
-        number(b.answer);
-        b
+        print!(rt; " later")?;
+        number(rt, b.answer)?;
+        Ok(b)
     }
 }

@@ -1,5 +1,6 @@
 // What a case shows of its box.
 use crate::bench::Bench;
+use std::io;
 
 // A number as an index.
 fn wide(n: u32) -> usize {
@@ -7,19 +8,18 @@ fn wide(n: u32) -> usize {
 }
 
 // A space and a number.
-pub(crate) fn number(n: u32) {
-    io::write_all(1, b" ");
-    io::print_decimal(1, n as u64);
+pub(crate) fn number(rt: &impl Print, n: u32) -> io::Result<()> {
+    print!(rt; " {n}")
 }
 
 // A space, what kind of word it is, and its bits.
-fn word(bits: u32, pointer: bool) {
+fn word(rt: &impl Print, bits: u32, pointer: bool) -> io::Result<()> {
     if pointer {
-        io::write_all(1, b" pointer ");
+        print!(rt; " pointer ")?;
     } else {
-        io::write_all(1, b" data ");
+        print!(rt; " data ")?;
     }
-    io::print_hex(1, bits as u64, 8);
+    print!(rt; "{bits:08x}")
 }
 
 // Whether every word from an address on is data 0.
@@ -38,109 +38,110 @@ fn zero_from(from: usize, words: [u32; 16], flags: [bool; 16]) -> bool {
 }
 
 // The handles of the free list, at most four.
-fn free_list(first: u32, links: [u32; 4]) {
+fn free_list(rt: &impl Print, first: u32, links: [u32; 4]) -> io::Result<()> {
     let mut h = wide(first);
     let mut left: u32 = 4;
     while 0 < left {
         if h == 0 {
-            return;
+            return Ok(());
         }
         if 4 <= h {
-            return;
+            return Ok(());
         }
-        number(h as u32);
+        number(rt, h as u32)?;
         h = wide(links[h]);
         left -= 1;
     }
+    Ok(())
 }
 
 impl Bench {
     // What the opening answered.
-    pub(crate) fn answered(self) -> Bench {
-        io::write_all(1, b": opened");
-        number(self.answer);
-        io::write_all(1, b";");
-        self
+    pub(crate) fn answered(self, rt: &impl Print) -> io::Result<Bench> {
+        print!(rt; ": opened")?;
+        number(rt, self.answer)?;
+        print!(rt; ";")?;
+        Ok(self)
     }
 
     // Whether a request is held.
-    pub(crate) fn held(self) -> Bench {
+    pub(crate) fn held(self, rt: &impl Print) -> io::Result<Bench> {
         if self.switches[9] {
-            io::write_all(1, b", held");
+            print!(rt; ", held")?;
         } else {
-            io::write_all(1, b", nothing held");
+            print!(rt; ", nothing held")?;
         }
-        self
+        Ok(self)
     }
 
     // The first word that no tuple takes.
-    pub(crate) fn top(self) -> Bench {
-        io::write_all(1, b", top");
-        number(self.numbers[2]);
-        self
+    pub(crate) fn top(self, rt: &impl Print) -> io::Result<Bench> {
+        print!(rt; ", top")?;
+        number(rt, self.numbers[2])?;
+        Ok(self)
     }
 
     // The free list, in order.
-    pub(crate) fn free(self) -> Bench {
+    pub(crate) fn free(self, rt: &impl Print) -> io::Result<Bench> {
         let links = self.links;
-        io::write_all(1, b", free");
-        free_list(self.numbers[3], links);
-        self
+        print!(rt; ", free")?;
+        free_list(rt, self.numbers[3], links)?;
+        Ok(self)
     }
 
     // The word at an address below 16.
-    pub(crate) fn word(self, at: u32) -> Bench {
+    pub(crate) fn word(self, rt: &impl Print, at: u32) -> io::Result<Bench> {
         let i = wide(at);
         if i < 16 {
-            io::write_all(1, b", word");
-            number(at);
-            word(self.words[i], self.flags[i]);
+            print!(rt; ", word")?;
+            number(rt, at)?;
+            word(rt, self.words[i], self.flags[i])?;
         }
-        self
+        Ok(self)
     }
 
     // Whether every word from an address on is data 0.
-    pub(crate) fn zeros(self, from: u32) -> Bench {
+    pub(crate) fn zeros(self, rt: &impl Print, from: u32) -> io::Result<Bench> {
         let words = self.words;
         let flags = self.flags;
         if zero_from(wide(from), words, flags) {
-            io::write_all(1, b", zero from");
+            print!(rt; ", zero from")?;
         } else {
-            io::write_all(1, b", not zero from");
+            print!(rt; ", not zero from")?;
         }
-        number(from);
-        self
+        number(rt, from)?;
+        Ok(self)
     }
 
     // The word in a register below 8.
-    pub(crate) fn register(self, r: u32) -> Bench {
+    pub(crate) fn register(self, rt: &impl Print, r: u32) -> io::Result<Bench> {
         let i = wide(r);
         if i < 8 {
-            io::write_all(1, b", register");
-            number(r);
-            word(self.numbers[i + 14], self.switches[i]);
+            print!(rt; ", register")?;
+            number(rt, r)?;
+            word(rt, self.numbers[i + 14], self.switches[i])?;
         }
-        self
+        Ok(self)
     }
 
     // The handle in a register below 8.
-    pub(crate) fn handle(self, r: u32) -> Bench {
+    pub(crate) fn handle(self, rt: &impl Print, r: u32) -> io::Result<Bench> {
         let i = wide(r);
         if i < 8 {
-            io::write_all(1, b", handle");
-            number(self.numbers[i + 14] / 65536);
+            print!(rt; ", handle")?;
+            number(rt, self.numbers[i + 14] / 65536)?;
         }
-        self
+        Ok(self)
     }
 
     // Where the tuple of a handle below 4 lies.
-    pub(crate) fn address(self, h: u32) -> Bench {
+    pub(crate) fn address(self, rt: &impl Print, h: u32) -> io::Result<Bench> {
         let i = wide(h);
         if i < 4 {
-            io::write_all(1, b", address");
-            number(h);
-            number(self.addresses[i]);
+            print!(rt; ", address")?;
+            number(rt, h)?;
+            number(rt, self.addresses[i])?;
         }
-        self
+        Ok(self)
     }
 }

@@ -9,6 +9,10 @@ at_hand r l = take (r.till - r.from) (drop r.from l)
 abbrev pub Within : Reader → ℕ → Type 0
 Within r n = (r.from ≤ r.till) × (r.till ≤ n)
 
+-- the bytes at hand stand at the front
+abbrev pub AtFront : Reader → List ℕ → List ℕ → Type 0
+AtFront r l l1 = take (length (at_hand r l)) l1 ≡ at_hand r l
+
 -- the bytes at hand are still there, in front of those that came; where none came they are the last
 pub record Fed (r s : Reader) (l l1 : List ℕ) : Type 0 where
   pub within : Within s 65536

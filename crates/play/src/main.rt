@@ -3,13 +3,15 @@
 // whose promise says it all. The box's columns are as large as the largest box.
 #![tactic(auto)]
 
-ghost use Rattle.std.specs.Prelude.{◌≡◌, ◌+◌, ◌-◌, ◌<◌, ◌≤◌, length, take, drop};
+ghost use Rattle.std.specs.Prelude.{◌≡◌, ◌+◌, ◌-◌, ◌<◌, ◌≤◌, length, take, drop, IsTrue, IfOk, OnOk, OnErr, ◌↔◌};
+ghost use Rattle.std.specs.Io.KnownBytes.{Appends, Consumes, IsAtEnd, Keeps};
 ghost use Rattle.lent.specs.Lent.{lent};
 ghost use Rattle.player.specs.Promises.{Plays};
-ghost use Rattle.play.specs.Hand.{at_hand, Within, Fed};
+ghost use Rattle.play.specs.Hand.{at_hand, Within, AtFront, Fed};
 
-use libc::{STDIN_FILENO, STDOUT_FILENO};
 use player::Place;
+use std::io;
+use std::io::{Read, Write};
 
 // Where the playing stands; the bytes at hand, from one place of the input to another; whether they are the last; how many bytes of the
 // output were written; and whether more bytes are wanted.
@@ -36,63 +38,74 @@ fn to_front(input: &mut [u8], from: usize, till: usize)
     }
 }
 
-// Reads behind the first n bytes, and gives how many came.
-fn read_behind(input: &mut [u8], n: usize) -> usize
+// Reads behind the first n bytes, and gives how many came. A read that fails leaves them too.
+fn read_behind<R: Read>(source: &mut R, input: &mut [u8], n: usize) -> io::Result<usize>
     requires { n ≤ length input.old }
-    ensures { (n + result ≤ length input.new) × (take n input.new ≡ take n input.old) }
+    ensures within { IfOk result (λ got. n + got ≤ length input.new) }
+    ensures kept { take n input.new ≡ take n input.old }
+    ensures came { IfOk result (λ got. Consumes (R.remaining source.old) (R.remaining source.new) (take got (drop n input.new))) }
+    ensures ended { IfOk result (λ got. got ≡ 0 → n < length input.old → IsAtEnd (R.remaining source.new)) }
+    ensures none_lost { OnErr result (Keeps (R.remaining source.old) (R.remaining source.new)) }
 {
-    let behind = &mut input[n..];
-    let got = libc::read(STDIN_FILENO, behind);
-    io::count(got, behind)
+    source.read(&mut input[n..])
 }
 
 // The bytes at hand, and more behind them. Where none come they are the last.
-fn more(r: Reader, input: &mut [u8; 65536]) -> Reader
+fn more<R: Read>(source: &mut R, r: Reader, input: &mut [u8; 65536]) -> io::Result<Reader>
     requires { Within r 65536 }
-    ensures { Fed r result input.old input.new }
+    ensures ok { IfOk result (λ s. Fed r s input.old input.new) }
+    ensures err { OnErr result (AtFront r input.old input.new) }
 {
     let from = r.from;
     let till = r.till;
     let place = r.place;
     to_front(input, from, till);
     let n = till - from;
-    let got = read_behind(input, n);
-    Reader {
+    let got = read_behind(source, input, n)?;
+    Ok(Reader {
         place,
         from: 0,
         till: n + got,
         last: got == 0,
         written: 0,
         wants: false,
-    }
+    })
 }
 
 // More bytes where they are wanted.
-fn fed(r: Reader, input: &mut [u8; 65536]) -> Reader
+fn fed<R: Read>(source: &mut R, r: Reader, input: &mut [u8; 65536]) -> io::Result<Reader>
     requires { Within r 65536 }
-    ensures { Fed r result input.old input.new }
+    ensures ok { IfOk result (λ s. Fed r s input.old input.new) }
+    ensures err { OnErr result (AtFront r input.old input.new) }
 {
     let wants = r.wants;
     if wants {
-        return more(r, input);
+        return more(source, r, input);
     }
-    r
+    Ok(r)
 }
 
-// Prints the first n bytes. Whether that went well.
-fn print(out: &[u8], n: usize) -> bool {
+// Prints the first n bytes. Whether there are so many. Where a write fails, some of them may be printed.
+fn print<W: Write>(sink: &mut W, out: &[u8], n: usize) -> io::Result<bool>
+    ensures room { IfOk result (λ printed. IsTrue printed ↔ (n ≤ length out.now)) }
+    ensures printed { OnOk result (n ≤ length out.now → Appends (W.contents sink.old) (W.contents sink.new) (take n out.now)) }
+{
     if out.len() < n {
-        return false;
+        return Ok(false);
     }
-    io::write_all(STDOUT_FILENO, &out[..n])
+    sink.write_all(&out[..n])?;
+    Ok(true)
 }
 
 // The same of the output.
-fn print_out(out: &[u8; 65536], n: usize) -> bool {
-    print(out, n)
+fn print_out<W: Write>(sink: &mut W, out: &[u8; 65536], n: usize) -> io::Result<bool>
+    ensures room { IfOk result (λ printed. IsTrue printed ↔ (n ≤ 65536)) }
+    ensures printed { OnOk result (n ≤ 65536 → Appends (W.contents sink.old) (W.contents sink.new) (take n out.now)) }
+{
+    print(sink, out, n)
 }
 
-// Whether there is something left to do: not after the last bytes where they give nothing more, and not where a write failed.
+// Whether there is something left to do: not after the last bytes where they give nothing more, and not where less was printed than was written.
 fn goes_on(printed: bool, wants: bool, last: bool) -> bool {
     if printed {
         if wants {
@@ -154,7 +167,8 @@ fn play_some(
 }
 
 // Reads where more bytes are wanted, and plays.
-fn turn(
+fn turn<R: Read>(
+    source: &mut R,
     r: Reader,
     input: &mut [u8; 65536],
     numbers: &mut [u32; 22],
@@ -168,14 +182,16 @@ fn turn(
     marks: &mut [bool; 1024],
     deeps: &mut [bool; 1024],
     out: &mut [u8; 65536],
-) -> Reader
+) -> io::Result<Reader>
     requires { Within r 65536 }
-    ensures { Within result 65536 }
+    ensures ok { IfOk result (λ s. Within s 65536) }
+    ensures err { OnErr result (AtFront r input.old input.new) }
+    ensures not_played { OnErr result ((out.new ≡ out.old) × (lent numbers.new switches.new hold.new words.new flags.new addresses.new sizes.new links.new marks.new deeps.new ≡ lent numbers.old switches.old hold.old words.old flags.old addresses.old sizes.old links.old marks.old deeps.old)) }
 {
-    let s = fed(r, input);
-    play_some(
+    let s = fed(source, r, input)?;
+    Ok(play_some(
         s, input, numbers, switches, hold, words, flags, addresses, sizes, links, marks, deeps, out,
-    )
+    ))
 }
 
 // A proved loop has to end, and nothing says that the input does. So turns are counted down, from a number that no run uses up.
@@ -189,7 +205,9 @@ fn turns_left(turns: u64, going: bool) -> u64
     0
 }
 
-fn main() {
+fn main(rt: HostRuntime) -> io::Result<()> {
+    let mut stdin = rt.stdin();
+    let mut stdout = rt.stdout();
     let mut input = [0u8; 65536];
     let mut out = [0u8; 65536];
     let mut numbers = [0u32; 22];
@@ -218,6 +236,7 @@ fn main() {
     let mut turns = u64::MAX;
     while turns > 0 {
         r = turn(
+            &mut stdin,
             r,
             &mut input,
             &mut numbers,
@@ -231,7 +250,9 @@ fn main() {
             &mut marks,
             &mut deeps,
             &mut out,
-        );
-        turns = turns_left(turns, goes_on(print_out(&out, r.written), r.wants, r.last));
+        )?;
+        let printed = print_out(&mut stdout, &out, r.written)?;
+        turns = turns_left(turns, goes_on(printed, r.wants, r.last));
     }
+    Ok(())
 }
