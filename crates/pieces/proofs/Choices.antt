@@ -1,5 +1,5 @@
 -- The next thing to do, choice by choice as the code makes it. Assumes nothing.
-use Prim.Native.Nat.{ℕ, ◌-◌, ◌≤◌, ◌<◌}
+use Prim.Native.Nat.{ℕ, ◌≤◌, ◌<◌}
 use mathlib.Core.Bool.{Bool, true, false, not, cond, ◌&&◌}
 use mathlib.Core.List.{List}
 use mathlib.Core.Option.{Option, none, some}
@@ -20,9 +20,8 @@ use Rattle.record.specs.Reading.{nothing_behind}
 use Rattle.record.specs.Found.{place_of, as_entry, fault_of}
 use Rattle.pieces.specs.declared.place.Place.{Place}
 use Rattle.pieces.specs.declared.place.Deed.TheVariants.{Say, Ask, Silent}
-use Rattle.pieces.specs.declared.moves.Move as code
 use Rattle.pieces.specs.declared.moves.Move.TheVariants.{Go, Wait}
-use Rattle.pieces.specs.Pieces.{Move, go, wait, ended, may_come, refuse, asked, take_record, next_record}
+use Rattle.pieces.specs.Pieces.{go, wait, ended, may_come, refuse, asked, take_record, next_record}
 use Rattle.pieces.specs.Moves.{as_move}
 
 -- ---- a refusal

@@ -1,7 +1,6 @@
 -- `gloamish_request` meets its contract: by what the request asked and the memory unit's request ensure. Assumes nothing.
 use mathlib.Core.Path.{◌∙◌}
 use Rattle.capi.proofs.Whole.{asked_unknown, asked_known}
-use borrow.Author.Rules.{rules}
 use Rattle.capi.proofs.gloamish_request.Goals as goal
 
 pub returns-in_default : goal.returns-in_default

@@ -1,6 +1,5 @@
 -- `gloamish_run` meets its contract: by what the run ensures, with its steps and its answer in one number. Assumes nothing.
 use Rattle.capi.proofs.Whole.{ran_in_one}
-use borrow.Author.Rules.{rules}
 use Rattle.capi.proofs.gloamish_run.Goals as goal
 
 pub returns : goal.returns

@@ -4,7 +4,6 @@ use mathlib.Core.Path.{sym, ◌∙◌}
 use native.Mathlib.Omega.{arith}
 use borrow.Author.Tests.{not-true, not-false}
 use Rattle.capi.proofs.Counts.{write_none, write_few, write_some}
-use borrow.Author.Rules.{rules}
 use Rattle.capi.proofs.strings.gloamish_write.Goals as goal
 
 pub returns-then-not-few : goal.returns-then-not-few

@@ -1,7 +1,6 @@
 -- `put_number` meets its contract, by its two cases. Assumes nothing.
 use borrow.Author.Tests.{eq-eqb, ne_eqb}
 use Rattle.lent.specs.Lent.{put_at}
-use borrow.Author.Rules.{rules}
 use Rattle.lent.proofs.arrays.put_number.Goals as goal
 
 pub returns-then-old-new : goal.returns-then-old-new

@@ -1,6 +1,5 @@
 -- `put_switch` meets its contract, by its two cases. Assumes nothing.
 use Rattle.lent.proofs.Fields.{flag_differs, flag_same}
-use borrow.Author.Rules.{rules}
 use Rattle.lent.proofs.arrays.put_switch.Goals as goal
 
 pub returns-then-old-new : goal.returns-then-old-new

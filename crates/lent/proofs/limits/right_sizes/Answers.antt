@@ -1,7 +1,6 @@
 -- `sound::right_sizes` meets its contract: the definition computes with what the two callees ensure. Assumes nothing.
 use mathlib.Core.Path.{sym}
 use Rattle.rules.specs.Box.{right_sizes}
-use borrow.Author.Rules.{rules}
 use Rattle.lent.proofs.limits.right_sizes.Goals as goal
 
 pub returns-then-in_range : goal.returns-then-in_range

@@ -1,7 +1,6 @@
 -- `sound::sound` meets its contract: the definition computes with what its callee ensures. Assumes nothing.
 use mathlib.Core.Path.{sym}
 use Rattle.rules.specs.Box.{sound}
-use borrow.Author.Rules.{rules}
 use Rattle.lent.proofs.limits.sound.Goals as goal
 
 pub returns-then-right_sizes : goal.returns-then-right_sizes

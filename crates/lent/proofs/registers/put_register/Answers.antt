@@ -1,7 +1,6 @@
 -- `put_register` meets its contract: the laws of a register that is written. Assumes nothing.
 use Rattle.collector.specs.Boxed.{word_of}
 use Rattle.lent.proofs.Reading.{written_registers, written_state}
-use borrow.Author.Rules.{rules}
 use Rattle.lent.proofs.registers.put_register.Goals as goal
 
 pub returns : goal.returns

@@ -1,7 +1,6 @@
 -- `register` meets its contract: the law of a register that is read. Assumes nothing.
 use mathlib.Core.Path.{refl}
 use Rattle.lent.proofs.Reading.{read_is}
-use borrow.Author.Rules.{rules}
 use Rattle.lent.proofs.registers.register.Goals as goal
 
 pub returns : goal.returns

@@ -4,7 +4,6 @@ use lib.ListN.{length}
 use Rattle.rules.specs.Parts.{Box}
 use Rattle.lent.specs.Lent.{state_of, lent}
 use Rattle.lent.proofs.Making.{dropped, granted_lent}
-use borrow.Author.Rules.{rules}
 use Rattle.lent.proofs.tuple.grant.Goals as goal
 
 pub make-requires : goal.make-requires

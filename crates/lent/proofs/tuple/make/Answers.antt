@@ -1,7 +1,6 @@
 -- `make` meets its contract: the struct that the new tuple leaves is put back, and the register points to it. Assumes nothing.
 use mathlib.Core.Path.{◌≡◌, refl, ◌∙◌, ap}
 use lib.ListN.{length}
-use native.Mathlib.Omega.{arith}
 use Rattle.rules.specs.Parts.{Registers, Box}
 use Rattle.rules.proofs.Kept.{Outline}
 use Rattle.collector.specs.declared.state.State.{State}
@@ -9,7 +8,6 @@ use Rattle.collector.specs.Boxed.{boxed}
 use Rattle.lent.specs.Lent.{state_of, registers_of}
 use Rattle.lent.proofs.Fields.{put_back}
 use Rattle.lent.proofs.Making.{made_outline, made_lent}
-use borrow.Author.Rules.{rules}
 use Rattle.lent.proofs.tuple.make.Goals as goal
 
 pub returns : goal.returns

@@ -1,7 +1,6 @@
 -- `request` meets its contract: whether the box is sound is tested, and then the request is done as such a box does it. Assumes nothing.
 use mathlib.Core.Path.{refl, sym}
 use Rattle.lent.specs.Lent.{state_of, lent}
-use borrow.Author.Rules.{rules}
 use Rattle.memory.proofs.asking.request.Goals as goal
 
 pub requested-requires : goal.requested-requires

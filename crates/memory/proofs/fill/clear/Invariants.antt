@@ -1,11 +1,8 @@
 -- `opening::clear` meets its contract. The loop's invariant: the length is kept, and every index passed holds 0. The
 -- measure is what is left of the length. Assumes nothing.
 use Prim.Native.Nat.{ℕ, ◌≤◌, ◌<◌, ◌-◌}
-use native.Mathlib.Omega.{arith}
-use mathlib.Core.Path.{◌≡◌, refl, ◌∙◌}
-use borrow.Author.Count.{below_none}
-use lib.ListN.{length, length-set, get_or}
-use Rattle.memory.proofs.Fills.{fill_more, fill_all}
+use mathlib.Core.Path.{◌≡◌}
+use lib.ListN.{length, get_or}
 use Rattle.memory.proofs.fill.clear.Given as goal
 
 abbrev pub invariant-loop-i : goal.invariant-loop-i

@@ -1,6 +1,5 @@
 -- `opening::first_link` meets its contract: each return is a case of the definition. Assumes nothing.
 use Rattle.memory.proofs.Fills.{link_nil, link_next, link_last}
-use borrow.Author.Rules.{rules}
 use Rattle.memory.proofs.fill.first_link.Goals as goal
 
 pub returns-then-i-eq0 : goal.returns-then-i-eq0

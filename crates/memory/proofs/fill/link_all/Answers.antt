@@ -1,12 +1,6 @@
 -- `opening::link_all` meets its contract. The loop's invariant: the length is kept, and every index passed has its link. The
 -- measure is what is left of the length. Assumes nothing.
-use Prim.Native.Nat.{ℕ, ◌≤◌, ◌<◌, ◌-◌}
-use native.Mathlib.Omega.{arith}
-use mathlib.Core.Path.{◌≡◌, refl, ◌∙◌, ap}
-use borrow.Author.Count.{below_none}
-use lib.ListN.{length, length-set, get_or}
-use Rattle.rules.specs.Open.{opened_link}
-use Rattle.memory.proofs.Fills.{fill_more, links_all}
+use Rattle.memory.proofs.Fills.{links_all}
 use Rattle.memory.proofs.fill.link_all.Goals as goal
 
 pub returns : goal.returns

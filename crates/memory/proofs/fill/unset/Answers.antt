@@ -1,12 +1,7 @@
 -- `opening::unset` meets its contract. The loop's invariant: the length is kept, and every index passed holds false. The
 -- measure is what is left of the length. Assumes nothing.
-use Prim.Native.Nat.{ℕ, ◌≤◌, ◌<◌, ◌-◌}
-use native.Mathlib.Omega.{arith}
-use mathlib.Core.Path.{◌≡◌, refl, ◌∙◌}
-use borrow.Author.Count.{below_none}
-use lib.ListN.{length, length-set, get_or}
 use mathlib.Core.Bool.{false}
-use Rattle.memory.proofs.Fills.{fill_more, fill_all}
+use Rattle.memory.proofs.Fills.{fill_all}
 use Rattle.memory.proofs.fill.unset.Goals as goal
 
 pub returns : goal.returns

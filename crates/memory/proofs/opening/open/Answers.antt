@@ -7,7 +7,6 @@ use Rattle.rules.proofs.Sizes.{sizes_lengths, sizes_ranges}
 use Rattle.collector.proofs.Bounds.{at_most}
 use Rattle.lent.specs.Lent.{lent}
 use Rattle.memory.proofs.Fills.{open_refused, open_done, opened_whole}
-use borrow.Author.Rules.{rules}
 use Rattle.memory.proofs.opening.open.Goals as goal
 
 pub link_all-requires : goal.link_all-requires

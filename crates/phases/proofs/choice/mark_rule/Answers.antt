@@ -5,7 +5,6 @@ use Rattle.rules.proofs.Sizes.{sound_lengths, sound_ranges}
 use Rattle.collector.proofs.Granting.{calm_reply, calm_grants, rest_calm, mark_scan_calm, mark_add_calm}
 use Rattle.lent.specs.Lent.{state_of, lent}
 use Rattle.phases.proofs.Picking.{left_three, rule_at}
-use borrow.Author.Rules.{rules}
 use Rattle.phases.proofs.choice.mark_rule.Goals as goal
 
 pub returns-then-phase-eq0 : goal.returns-then-phase-eq0

@@ -7,7 +7,6 @@ use Rattle.rules.proofs.Sizes.{sound_lengths, sound_ranges, sound_phase}
 use Rattle.collector.proofs.Granting.{calm_reply, calm_grants, sweep_clear_calm, sweep_write_calm}
 use Rattle.lent.specs.Lent.{state_of, lent}
 use Rattle.phases.proofs.Picking.{left_eight, rule_at}
-use borrow.Author.Rules.{rules}
 use Rattle.phases.proofs.choice.rule.Goals as goal
 
 pub mark_rule-requires : goal.mark_rule-requires

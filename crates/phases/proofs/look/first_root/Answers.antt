@@ -1,13 +1,12 @@
 -- `first_root` meets its contract. The loop's invariant: what a look at all registers finds is what a look from r on does. The
 -- measure is the number of registers left. Assumes nothing.
-use Prim.Native.Nat.{ℕ, ◌≤◌, ◌-◌}
+use Prim.Native.Nat.{ℕ}
 use mathlib.Core.Bool.{true}
-use mathlib.Core.Path.{◌≡◌, refl, sym, ◌∙◌, ap}
-use Rattle.rules.specs.Parts.{Word, Box}
+use mathlib.Core.Path.{sym, ◌∙◌, ap}
+use Rattle.rules.specs.Parts.{Word}
 use Rattle.rules.specs.Box.{handle_of}
-use Rattle.rules.specs.Collector.{look_from}
 use Rattle.collector.specs.Decide.{found_as}
-use Rattle.lent.specs.Lent.{registers_of, register_in}
+use Rattle.lent.specs.Lent.{register_in}
 use Rattle.phases.specs.Passing.{passed_over}
 use Rattle.phases.proofs.Looking.{look_on, look_stop, look_end}
 use borrow.Author.Rules.{rules}

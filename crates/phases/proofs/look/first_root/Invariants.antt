@@ -1,16 +1,10 @@
 -- `first_root` meets its contract. The loop's invariant: what a look at all registers finds is what a look from r on does. The
 -- measure is the number of registers left. Assumes nothing.
-use Prim.Native.Nat.{ℕ, ◌≤◌, ◌-◌}
-use mathlib.Core.Bool.{true}
-use mathlib.Core.Path.{◌≡◌, refl, sym, ◌∙◌, ap}
-use Rattle.rules.specs.Parts.{Word, Box}
-use Rattle.rules.specs.Box.{handle_of}
+use Prim.Native.Nat.{◌≤◌, ◌-◌}
+use mathlib.Core.Path.{◌≡◌}
+use Rattle.rules.specs.Parts.{Box}
 use Rattle.rules.specs.Collector.{look_from}
-use Rattle.collector.specs.Decide.{found_as}
-use Rattle.lent.specs.Lent.{registers_of, register_in}
-use Rattle.phases.specs.Passing.{passed_over}
-use Rattle.phases.proofs.Looking.{look_on, look_stop, look_end}
-use borrow.Author.Rules.{rules}
+use Rattle.lent.specs.Lent.{registers_of}
 use Rattle.phases.proofs.look.first_root.Given as goal
 
 abbrev pub invariant-loop-r : goal.invariant-loop-r

@@ -6,7 +6,6 @@ use Prim.Native.Nat.{◌<◌, ◌≤◌}
 use lib.ListN.{get_or}
 use Rattle.collector.specs.Boxed.{word_of}
 use Rattle.phases.proofs.Looking.{passes_plain, passes_marked, stops_far}
-use borrow.Author.Rules.{rules}
 use Rattle.phases.proofs.look.passed_over.Goals as goal
 
 pub returns-then-handle-h : goal.returns-then-handle-h

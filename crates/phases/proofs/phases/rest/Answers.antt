@@ -10,7 +10,6 @@ use Rattle.collector.specs.Boxed.{boxed}
 use Rattle.lent.specs.Lent.{state_of, registers_of}
 use Rattle.lent.proofs.Fields.{put_back}
 use Rattle.phases.proofs.Landing.{landed, landed_outline}
-use borrow.Author.Rules.{rules}
 use Rattle.phases.proofs.phases.rest.Goals as goal
 
 pub returns : goal.returns

@@ -9,9 +9,7 @@ use Rattle.collector.specs.Boxed.{boxed}
 use Rattle.collector.proofs.Moving.{read_word}
 use Rattle.lent.specs.Lent.{state_of}
 use Rattle.phases.proofs.Landing.{landed_words}
-use native.Mathlib.Omega.{arith}
 use borrow.Author.Tests.{lt-ltb}
-use borrow.Author.Rules.{rules}
 use Rattle.phases.proofs.words.read_word.Goals as goal
 
 pub returns : goal.returns

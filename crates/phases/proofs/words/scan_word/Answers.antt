@@ -10,7 +10,6 @@ use Rattle.collector.proofs.Marking.{mark_scan_word}
 use Rattle.lent.specs.Lent.{state_of}
 use Rattle.phases.proofs.Landing.{landed_words}
 use borrow.Author.Tests.{lt-ltb}
-use borrow.Author.Rules.{rules}
 use Rattle.phases.proofs.words.scan_word.Goals as goal
 
 pub returns : goal.returns

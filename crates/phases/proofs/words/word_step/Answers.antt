@@ -4,7 +4,6 @@ use lib.ListN.{get_or}
 use Rattle.rules.specs.Box.{reply}
 use Rattle.lent.specs.Lent.{state_of, lent}
 use Rattle.phases.proofs.WordSteps.{has_word, words_7, words_6, words_5, words_2, words_8, words_other, words_none}
-use borrow.Author.Rules.{rules}
 use Rattle.phases.proofs.words.word_step.Goals as goal
 
 pub returns-then-phase-eq7 : goal.returns-then-phase-eq7

@@ -10,7 +10,6 @@ use Rattle.collector.proofs.Moving.{zero_done}
 use Rattle.lent.specs.Lent.{state_of}
 use Rattle.phases.proofs.Landing.{landed_words}
 use borrow.Author.Tests.{lt-ltb}
-use borrow.Author.Rules.{rules}
 use Rattle.phases.proofs.words.zero_word.Goals as goal
 
 pub returns : goal.returns

@@ -1,7 +1,6 @@
 -- `asked` meets its contract, by what the request of the numbers ensures. Assumes nothing.
 use Rattle.pieces.proofs.Choices.{asks_known, asks_nothing}
 use Rattle.record.specs.Requests.{request_of}
-use borrow.Author.Rules.{rules}
 use Rattle.pieces.proofs.moves.asked.Goals as goal
 
 pub returns-in_default : goal.returns-in_default

@@ -2,7 +2,6 @@
 use mathlib.Core.Path.{◌∙◌, sym}
 use borrow.Author.Tests.{eq-eqb, ne_eqb}
 use Rattle.pieces.specs.Pieces.{finish}
-use borrow.Author.Rules.{rules}
 use Rattle.pieces.proofs.moves.finish.Goals as goal
 
 pub returns-then-wide-all : goal.returns-then-wide-all

@@ -2,7 +2,6 @@
 use borrow.Author.Tests.{eq-eqb, ne_eqb}
 use Rattle.pieces.specs.Pieces.{go_on}
 use Rattle.pieces.proofs.Choices.{place_here}
-use borrow.Author.Rules.{rules}
 use Rattle.pieces.proofs.moves.go_on.Goals as goal
 
 pub returns-then-left-eq0 : goal.returns-then-left-eq0

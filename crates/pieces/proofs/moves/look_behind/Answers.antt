@@ -2,7 +2,6 @@
 use mathlib.Core.Path.{◌∙◌}
 use Rattle.pieces.specs.Pieces.{look_behind}
 use Rattle.pieces.proofs.Choices.{place_here, something_behind, none_behind}
-use borrow.Author.Rules.{rules}
 use Rattle.pieces.proofs.moves.look_behind.Goals as goal
 
 pub returns-then-at-input : goal.returns-then-at-input

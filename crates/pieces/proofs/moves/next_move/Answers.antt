@@ -1,7 +1,6 @@
 -- `next_move` meets its contract, by the stage. Assumes nothing.
 use borrow.Author.Tests.{lt-ltb, le-ltb, eq-eqb, ne_eqb}
 use Rattle.pieces.specs.Pieces.{next}
-use borrow.Author.Rules.{rules}
 use Rattle.pieces.proofs.moves.next_move.Goals as goal
 
 pub returns-then-stage-lt3 : goal.returns-then-stage-lt3

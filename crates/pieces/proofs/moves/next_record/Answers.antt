@@ -3,7 +3,6 @@ use mathlib.Core.Path.{refl}
 use lib.ListN.{length, drop}
 use Rattle.record.specs.Fields.{kinds, entry}
 use Rattle.pieces.proofs.Choices.{record_faulty, record_whole, next_whole, place_here}
-use borrow.Author.Rules.{rules}
 use Rattle.pieces.proofs.moves.next_record.Goals as goal
 
 pub returns-in_default : goal.returns-in_default

@@ -1,7 +1,6 @@
 -- `one_more` meets its contract, by its test. Assumes nothing.
 use borrow.Author.Tests.{lt-ltb, le-ltb}
 use Rattle.pieces.specs.Pieces.{one_more}
-use borrow.Author.Rules.{rules}
 use Rattle.pieces.proofs.moves.one_more.Goals as goal
 
 pub returns-then-n-lt4294967296 : goal.returns-then-n-lt4294967296

@@ -2,7 +2,6 @@
 use mathlib.Core.Path.{◌∙◌}
 use borrow.Author.Tests.{eq-eqb, ne_eqb}
 use Rattle.pieces.specs.Pieces.{play_now}
-use borrow.Author.Rules.{rules}
 use Rattle.pieces.proofs.moves.play_now.Goals as goal
 
 pub returns-then-kind-eq11 : goal.returns-then-kind-eq11

@@ -1,7 +1,6 @@
 -- `refuse` meets its contract: whether the string is cut, and whether more may come. Assumes nothing.
 use mathlib.Core.Path.{◌∙◌}
 use Rattle.pieces.proofs.Choices.{refuse_last, refuse_other, refuse_waits}
-use borrow.Author.Rules.{rules}
 use Rattle.pieces.proofs.moves.refuse.Goals as goal
 
 pub returns-then-last : goal.returns-then-last

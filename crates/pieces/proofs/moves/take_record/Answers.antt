@@ -2,7 +2,6 @@
 use mathlib.Core.Path.{◌∙◌, sym}
 use borrow.Author.Tests.{eq-eqb, ne_eqb}
 use Rattle.pieces.specs.Pieces.{take_record}
-use borrow.Author.Rules.{rules}
 use Rattle.pieces.proofs.moves.take_record.Goals as goal
 
 pub returns-then-kind-eq0 : goal.returns-then-kind-eq0

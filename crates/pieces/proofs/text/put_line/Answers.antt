@@ -1,8 +1,5 @@
 -- `put_line` meets its contract: the stores are those of one digit or of two. Assumes nothing.
-use native.Mathlib.Omega.{arith}
-use lib.ListN.{length-set}
 use Rattle.pieces.proofs.Lines.{stored_one, stored_two}
-use borrow.Author.Rules.{rules}
 use Rattle.pieces.proofs.text.put_line.Goals as goal
 
 pub returns-then-a-lt10 : goal.returns-then-a-lt10

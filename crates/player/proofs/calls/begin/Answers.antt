@@ -4,7 +4,6 @@ use native.Mathlib.Omega.{arith}
 use Rattle.record.specs.Fields.{fault, editions, entry}
 use Rattle.lent.specs.Lent.{lent}
 use Rattle.player.proofs.Starting.{starts_full, start_fault, fault_small, starts_refused, start_whole, opens_small, starts_open}
-use borrow.Author.Rules.{rules}
 use Rattle.player.proofs.calls.begin.Goals as goal
 
 pub returns-then-out-lt3 : goal.returns-then-out-lt3

@@ -2,7 +2,6 @@
 use native.Mathlib.Omega.{arith}
 use Rattle.lent.specs.Lent.{lent}
 use Rattle.player.proofs.Starting.{call_start, call_part, call_whole}
-use borrow.Author.Rules.{rules}
 use Rattle.player.proofs.calls.play.Goals as goal
 
 pub returns-then-stage-eq0 : goal.returns-then-stage-eq0

@@ -1,9 +1,7 @@
 -- `play_part` meets its contract: a part of each column is lent, and comes back before the rest. Assumes nothing.
 use mathlib.Core.Path.{refl}
 use lib.ListN.{get_or}
-use Rattle.turns.proofs.Parts.{part_count}
 use Rattle.player.proofs.Starting.{plays_parts}
-use borrow.Author.Rules.{rules}
 use Rattle.player.proofs.calls.play_part.Goals as goal
 
 pub returns : goal.returns

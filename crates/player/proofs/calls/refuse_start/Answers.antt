@@ -1,6 +1,5 @@
 -- `refuse_start` meets its contract: whether the string is cut, and whether more may come. Assumes nothing.
 use Rattle.player.proofs.Starting.{refuses_other, refuses_last, refuses_later}
-use borrow.Author.Rules.{rules}
 use Rattle.player.proofs.calls.refuse_start.Goals as goal
 
 pub returns-then-last : goal.returns-then-last

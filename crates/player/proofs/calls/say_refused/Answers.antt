@@ -1,6 +1,5 @@
 -- `say_refused` meets its contract, by what `put_line` ensures. Assumes nothing.
 use Rattle.player.proofs.Starting.{says}
-use borrow.Author.Rules.{rules}
 use Rattle.player.proofs.calls.say_refused.Goals as goal
 
 pub returns : goal.returns

@@ -4,9 +4,8 @@ use Rattle.rules.specs.Box.{put_register}
 use Rattle.rules.specs.Place.{read}
 use Rattle.rules.specs.Request.{done}
 use Rattle.collector.specs.Boxed.{boxed, word_of}
-use Rattle.requests.proofs.Findings.{not_found, slot_within}
+use Rattle.requests.proofs.Findings.{not_found}
 use Rattle.requests.proofs.Accesses.{load_done}
-use borrow.Author.Rules.{rules}
 use Rattle.requests.proofs.access.load.Goals as goal
 
 pub returns-in-Slot : goal.returns-in-Slot

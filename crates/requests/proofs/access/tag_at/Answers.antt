@@ -5,7 +5,6 @@ use Rattle.rules.specs.Parts.{Box}
 use Rattle.collector.specs.Boxed.{boxed, blank}
 use Rattle.requests.proofs.Places.{within_m}
 use Rattle.requests.proofs.Accesses.{tag_outside, tag_done}
-use borrow.Author.Rules.{rules}
 use Rattle.requests.proofs.access.tag_at.Goals as goal
 
 pub read-word-requires : goal.read-word-requires

@@ -3,7 +3,6 @@ use Rattle.rules.specs.Parts.{Box}
 use Rattle.collector.specs.Boxed.{word_of}
 use Rattle.lent.specs.Lent.{lent}
 use Rattle.requests.proofs.Moves.{advance_data, advance_past, advance_done}
-use borrow.Author.Rules.{rules}
 use Rattle.requests.proofs.data.advance.Goals as goal
 
 pub returns-then-offset-ge65536 : goal.returns-then-offset-ge65536

@@ -1,5 +1,5 @@
 -- `take` meets its contract: by what was found. Assumes nothing.
-use Rattle.requests.proofs.Lending.{take_given, take_refused}
+use Rattle.requests.proofs.Lending.{take_given}
 use Rattle.requests.proofs.data.take.Goals as goal
 
 pub returns-in-Given : goal.returns-in-Given

@@ -9,7 +9,6 @@ use Rattle.collector.proofs.Bounds.{tested}
 use Rattle.requests.specs.Found.{place_of}
 use Rattle.requests.proofs.Findings.{word_beyond, word_outside, word_there}
 use Rattle.requests.proofs.Places.{within_m}
-use borrow.Author.Rules.{rules}
 use Rattle.requests.proofs.find.find_slot.Goals as goal
 
 pub returns-then-size-n : goal.returns-then-size-n

@@ -1,6 +1,5 @@
 -- `find_tuple` meets its contract: each return is a case of `at_tuple`. Assumes nothing.
 use Rattle.requests.proofs.Findings.{tuple_data, tuple_nil, tuple_far, tuple_there}
-use borrow.Author.Rules.{rules}
 use Rattle.requests.proofs.find.find_tuple.Goals as goal
 
 pub returns-then-h-eq0 : goal.returns-then-h-eq0

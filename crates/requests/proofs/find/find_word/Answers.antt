@@ -4,9 +4,7 @@ use mathlib.Core.Path.{refl, ◌∙◌, ap}
 use Rattle.rules.specs.Parts.{Box}
 use Rattle.rules.specs.Request.{at_word}
 use Rattle.collector.specs.Boxed.{boxed, word_of}
-use Rattle.requests.proofs.Findings.{named_tuple, named_nil, not_named, name_entry, number_read}
-use borrow.Author.Rules.{rules}
-use native.Mathlib.Omega.{arith}
+use Rattle.requests.proofs.Findings.{named_tuple, number_read}
 use Rattle.requests.proofs.find.find_word.Goals as goal
 
 pub returns-in-Tuple : goal.returns-in-Tuple

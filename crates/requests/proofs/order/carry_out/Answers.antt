@@ -1,7 +1,7 @@
 -- `carry_out` meets its contract: by the kinds, each by what its function ensures. Assumes nothing.
 use Rattle.rules.specs.Parts.{Box}
 use Rattle.lent.specs.Lent.{lent}
-use Rattle.requests.proofs.Carrying.{right_setd, right_nil, right_move, right_advance, right_load, right_size, right_tag, right_same, does_setd, does_nil, does_move, does_advance, does_load, does_size, does_tag, does_same, changed}
+use Rattle.requests.proofs.Carrying.{right_setd, right_nil, right_move, right_advance, right_load, right_size, right_tag, right_same, does_setd, does_nil, does_move, does_advance, does_load, does_size, does_tag, does_same}
 use Rattle.requests.proofs.order.carry_out.Goals as goal
 
 pub set_data-requires : goal.set_data-requires

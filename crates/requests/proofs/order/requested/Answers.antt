@@ -1,11 +1,9 @@
 -- `requested` meets its contract: by what refuses the request, and then by its kind. Assumes nothing.
-use mathlib.Core.Path.{refl}
 use Rattle.rules.specs.Parts.{Box}
 use Rattle.rules.proofs.Sizes.{sound_lengths}
 use Rattle.lent.specs.Lent.{lent}
-use Rattle.requests.proofs.Carrying.{right_getm, right_store, does_getm, does_store, not_getm, not_store, refused, not_refused, carried}
+use Rattle.requests.proofs.Carrying.{right_getm, right_store, does_getm, does_store, refused, not_refused, carried}
 use Rattle.requests.proofs.Lending.{is_held}
-use borrow.Author.Rules.{rules}
 use Rattle.requests.proofs.order.requested.Goals as goal
 
 pub returns-then-refused-ne0 : goal.returns-then-refused-ne0

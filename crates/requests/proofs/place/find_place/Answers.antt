@@ -2,7 +2,6 @@
 -- Assumes nothing.
 use mathlib.Core.Path.{sym}
 use Rattle.rules.proofs.View.Places.{place_copied, place_moved, place_home}
-use borrow.Author.Rules.{rules}
 use native.Mathlib.Omega.{arith}
 use Rattle.requests.proofs.place.find_place.Goals as goal
 

@@ -1,6 +1,5 @@
 -- `in_memory` meets its contract: by the two kinds of place. Assumes nothing.
 use Rattle.requests.proofs.Places.{memory_copy, memory_at}
-use borrow.Author.Rules.{rules}
 use Rattle.requests.proofs.place.in_memory.Goals as goal
 
 pub returns-in-Copy : goal.returns-in-Copy

@@ -1,7 +1,5 @@
 -- `read` meets its contract: by the two kinds of place; an address is below M, and so below both lengths. Assumes nothing.
-use Rattle.requests.proofs.Places.{below_m, read_copy, read_at}
-use borrow.Author.Rules.{rules}
-use native.Mathlib.Omega.{arith}
+use Rattle.requests.proofs.Places.{read_copy, read_at}
 use Rattle.requests.proofs.place.read.Goals as goal
 
 pub returns-in-Copy : goal.returns-in-Copy

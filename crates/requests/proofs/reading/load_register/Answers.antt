@@ -1,11 +1,10 @@
 -- `load_register` meets its contract: the definition at the register's word and at what `load` found. Assumes nothing.
-use mathlib.Core.Path.{ap, sym, ◌∙◌}
+use mathlib.Core.Path.{ap}
 use Rattle.rules.specs.Parts.{Box}
 use Rattle.collector.specs.declared.state.State.{State}
 use Rattle.collector.specs.Boxed.{boxed, word_of}
 use Rattle.lent.specs.Lent.{registers_of, lent}
 use Rattle.requests.proofs.Lending.{load_whole}
-use borrow.Author.Rules.{rules}
 use Rattle.requests.proofs.reading.load_register.Goals as goal
 
 pub returns : goal.returns

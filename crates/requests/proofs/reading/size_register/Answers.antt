@@ -4,7 +4,6 @@ use Rattle.rules.specs.Parts.{Box}
 use Rattle.collector.specs.Boxed.{word_of}
 use Rattle.lent.specs.Lent.{lent}
 use Rattle.requests.proofs.Lending.{is_h, size_whole}
-use borrow.Author.Rules.{rules}
 use Rattle.requests.proofs.reading.size_register.Goals as goal
 
 pub size-got-requires : goal.size-got-requires

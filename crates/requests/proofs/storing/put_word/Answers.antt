@@ -1,17 +1,13 @@
 -- `put_word` meets its contract: by whether the word names a tuple and by the two kinds of place; an address is below both lengths.
 -- Assumes nothing.
-use mathlib.Core.Logic.{⊎_elim}
-use mathlib.Core.Path.{ap, ◌∙◌}
-use lib.ListN.{length, length-set}
-use native.Mathlib.Omega.{arith}
+use mathlib.Core.Path.{◌∙◌}
 use Rattle.rules.specs.Parts.{Word, Box}
 use Rattle.rules.specs.Place.{Place}
 use Rattle.collector.specs.Boxed.{word_of}
 use Rattle.lent.specs.Lent.{lent}
 use Rattle.requests.specs.Found.{place_of}
-use Rattle.requests.proofs.Places.{below_m, write_copy, write_at}
+use Rattle.requests.proofs.Places.{write_copy, write_at}
 use Rattle.requests.proofs.Stores.{put_deep, put_flat, copy_put}
-use borrow.Author.Rules.{rules}
 use Rattle.requests.proofs.storing.put_word.Goals as goal
 use Rattle.requests.proofs.storing.put_word.Goals.{then-names_tuple, else-names_tuple}
 

@@ -9,7 +9,6 @@ use Rattle.collector.specs.Boxed.{word_of}
 use Rattle.lent.specs.Lent.{lent}
 use Rattle.requests.proofs.Lending.{is_phase}
 use Rattle.requests.proofs.Stores.{first_can, first_shaded, first_free, first_same}
-use borrow.Author.Rules.{rules}
 use Rattle.requests.proofs.storing.shade_first.Goals as goal
 
 pub returns-then-shades : goal.returns-then-shades

@@ -1,17 +1,14 @@
 -- `shade_target` meets its contract: the tests and the shading of the struct, and what is put back. Assumes nothing.
 use Prim.Native.Nat.{ℕ}
-use mathlib.Core.Bool.{Bool, true, false}
+use mathlib.Core.Bool.{Bool, true}
 use mathlib.Core.List.{List, []}
-use mathlib.Core.Path.{◌≡◌, refl, sym, ◌∙◌, ap}
+use mathlib.Core.Path.{◌≡◌}
 use Rattle.rules.specs.Parts.{Registers, Box}
-use Rattle.rules.specs.Place.{can_shade}
 use Rattle.collector.specs.declared.state.State.{State}
-use Rattle.collector.specs.Boxed.{boxed, blank}
-use Rattle.collector.proofs.Bounds.{lt_same, tested}
+use Rattle.collector.specs.Boxed.{boxed}
 use Rattle.lent.specs.Lent.{state_of, registers_of}
 use Rattle.lent.proofs.Fields.{put_back}
 use Rattle.requests.proofs.Stores.{shade_keeps, target_tested, target_shaded}
-use borrow.Author.Rules.{rules}
 use Rattle.requests.proofs.storing.shade_target.Goals as goal
 
 pub returns-then-can_shade : goal.returns-then-can_shade

@@ -9,7 +9,6 @@ use Rattle.collector.specs.declared.state.State.{State}
 use Rattle.collector.specs.Boxed.{boxed, word_of}
 use Rattle.lent.specs.Lent.{registers_of, lent}
 use Rattle.requests.proofs.Stores.{slot_fits, store_slot, store_none}
-use borrow.Author.Rules.{rules}
 use Rattle.requests.proofs.storing.store.Goals as goal
 
 pub find_word-f-requires : goal.find_word-f-requires

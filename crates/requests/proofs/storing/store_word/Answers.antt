@@ -5,7 +5,6 @@ use Rattle.collector.specs.Boxed.{word_of}
 use Rattle.lent.specs.Lent.{lent}
 use Rattle.requests.specs.Found.{place_of}
 use Rattle.requests.proofs.Stores.{store_done, store_refused}
-use borrow.Author.Rules.{rules}
 use Rattle.requests.proofs.storing.store_word.Goals as goal
 
 pub returns-then-shade_first : goal.returns-then-shade_first

@@ -9,7 +9,6 @@ use Rattle.collector.specs.Boxed.{boxed}
 use Rattle.collector.proofs.Tuples.{room_top, make_entry, make_live}
 use Rattle.lent.specs.Lent.{registers_of, lent}
 use Rattle.requests.proofs.Lending.{getm_large, getm_held, getm_made, getm_refused}
-use borrow.Author.Rules.{rules}
 use Rattle.requests.proofs.tuple.getm.Goals as goal
 
 pub returns-then-state-size : goal.returns-then-state-size

@@ -1,6 +1,5 @@
 -- `put_on_hold` meets its contract: the five places that are written are the hold. Assumes nothing.
 use Rattle.requests.proofs.Lending.{hold_box}
-use borrow.Author.Rules.{rules}
 use Rattle.requests.proofs.tuple.put_on_hold.Goals as goal
 
 pub returns : goal.returns

@@ -1,16 +1,13 @@
 -- `run` equals the definition `run`. The loop's invariant: the box has its sizes and lengths and is sound while budget is left, and what
 -- the steps done and the budget left give together is what the whole budget gives. The measure is what is left. Assumes nothing.
-use Prim.Native.Nat.{◌+◌, ◌^◌, ◌≤◌, ◌<◌}
+use Prim.Native.Nat.{◌+◌, ◌≤◌, ◌<◌}
 use mathlib.Core.Bool.{true}
-use mathlib.Core.Path.{◌≡◌, refl, ◌∙◌, ap}
-use Rattle.rules.specs.Parts.{Box}
+use mathlib.Core.Path.{◌≡◌}
 use Rattle.rules.specs.Box.{sound}
-use Rattle.rules.proofs.Kept.{Outline, outline}
-use Rattle.lent.specs.Lent.{state_of, lent}
+use Rattle.rules.proofs.Kept.{outline}
+use Rattle.lent.specs.Lent.{lent}
 use Rattle.rules.specs.Run.{run}
-use Rattle.steps.proofs.Ruling.{went_outline, went_sound}
-use Rattle.steps.proofs.Runs.{going, run_starts, run_turn, run_ends, run_fits, room_for, start_fits, start_sound, steps_most}
-use borrow.Author.Rules.{rules}
+use Rattle.steps.proofs.Runs.{going}
 use Rattle.steps.proofs.running.run.Given as goal
 
 abbrev pub invariant-loop-left : goal.invariant-loop-left

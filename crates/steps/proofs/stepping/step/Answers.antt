@@ -10,7 +10,6 @@ use Rattle.lent.specs.Lent.{state_of, lent}
 use Rattle.phases.proofs.WordSteps.{word_done, word_left}
 use Rattle.steps.proofs.Ruling.{step_refused}
 use Rattle.steps.proofs.Runs.{stretch_one}
-use borrow.Author.Rules.{rules}
 use Rattle.steps.proofs.stepping.step.Goals as goal
 
 pub word_step-answer-requires : goal.word_step-answer-requires

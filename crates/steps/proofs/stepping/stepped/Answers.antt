@@ -3,7 +3,6 @@ use Rattle.rules.specs.Parts.{Box}
 use Rattle.rules.proofs.Sizes.{sound_lengths, sound_ranges}
 use Rattle.lent.specs.Lent.{state_of, lent}
 use Rattle.steps.proofs.Ruling.{step_plain, step_granted, ruled_outline, same_lengths, same_ranges}
-use borrow.Author.Rules.{rules}
 use Rattle.steps.proofs.stepping.stepped.Goals as goal
 
 pub grant-requires : goal.grant-requires

@@ -1,17 +1,11 @@
 -- `steps` meets its contract. The loop's invariant: the box is sound and has its sizes and lengths, and what the steps done and the steps
 -- left give together is what all give. The measure is what is left. Assumes nothing.
-use Prim.Native.Nat.{◌+◌, ◌^◌, ◌≤◌}
-use mathlib.Core.Bool.{true}
-use mathlib.Core.Path.{◌≡◌, refl, ◌∙◌, ap}
+use mathlib.Core.Path.{refl, ◌∙◌}
 use native.Mathlib.Omega.{arith}
 use Rattle.rules.specs.Parts.{Box}
-use Rattle.rules.specs.Box.{sound}
-use Rattle.rules.proofs.Kept.{Outline, outline}
 use Rattle.lent.specs.Lent.{lent}
-use Rattle.steps.specs.Stretch.{stretch}
 use Rattle.steps.proofs.Ruling.{stepped_outline, stepped_sound}
-use Rattle.steps.proofs.Runs.{stretched, stretch_starts, stretch_turn, stretch_ends, stretch_fits, room_left}
-use borrow.Author.Rules.{rules}
+use Rattle.steps.proofs.Runs.{stretch_starts, stretch_turn, stretch_ends, stretch_fits}
 use Rattle.steps.proofs.stepping.steps.Goals as goal
 
 pub loop-left-init : goal.loop-left-init

@@ -1,9 +1,7 @@
 -- `put_answer` meets its contract: the stores of 30 are those of its two digits. Assumes nothing.
 use mathlib.Core.Path.{refl}
 use native.Mathlib.Omega.{arith}
-use lib.ListN.{length-set}
 use Rattle.pieces.proofs.Lines.{stored_two}
-use borrow.Author.Rules.{rules}
 use Rattle.trace.proofs.stepping.put_answer.Goals as goal
 
 pub returns-then-a-eq30 : goal.returns-then-a-eq30

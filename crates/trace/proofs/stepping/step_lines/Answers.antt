@@ -1,17 +1,15 @@
 -- `step_lines` meets its contract. The loop's invariant: the columns and the output keep their lengths, whether the box is sound is known,
 -- there is room for the lines of the steps that are left, and what is done and what is left come to all of the steps. The measure is the
 -- steps left. Assumes nothing.
-use Prim.Native.Nat.{◌+◌, ◌*◌, ◌≤◌}
-use mathlib.Core.Path.{◌≡◌, refl, ◌∙◌, ap}
+use mathlib.Core.Path.{◌≡◌, ◌∙◌, ap}
 use native.Mathlib.Omega.{arith}
 use lib.ListN.{length}
 use lib.Seq.{length-sets}
 use Rattle.rules.specs.Parts.{Box}
-use Rattle.rules.specs.Box.{sound}
 use Rattle.lent.specs.Lent.{lent}
 use Rattle.pieces.specs.Text.{line}
 use Rattle.pieces.proofs.Lines.{line_short}
-use Rattle.trace.proofs.StepLines.{stepped_small, stepped_same, Going, goes_begins, goes_on, goes_ends}
+use Rattle.trace.proofs.StepLines.{stepped_small, stepped_same, goes_on, goes_ends}
 use Rattle.trace.proofs.stepping.step_lines.Goals as goal
 
 pub put_answer-end-requires : goal.put_answer-end-requires

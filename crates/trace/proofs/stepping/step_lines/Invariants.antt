@@ -2,16 +2,11 @@
 -- there is room for the lines of the steps that are left, and what is done and what is left come to all of the steps. The measure is the
 -- steps left. Assumes nothing.
 use Prim.Native.Nat.{◌+◌, ◌*◌, ◌≤◌}
-use mathlib.Core.Path.{◌≡◌, refl, ◌∙◌, ap}
-use native.Mathlib.Omega.{arith}
+use mathlib.Core.Path.{◌≡◌}
 use lib.ListN.{length}
-use lib.Seq.{length-sets}
-use Rattle.rules.specs.Parts.{Box}
 use Rattle.rules.specs.Box.{sound}
 use Rattle.lent.specs.Lent.{lent}
-use Rattle.pieces.specs.Text.{line}
-use Rattle.pieces.proofs.Lines.{line_short}
-use Rattle.trace.proofs.StepLines.{stepped_small, stepped_same, Going, goes_begins, goes_on, goes_ends}
+use Rattle.trace.proofs.StepLines.{Going}
 use Rattle.trace.proofs.stepping.step_lines.Given as goal
 
 abbrev pub invariant-loop-left : goal.invariant-loop-left

@@ -1,6 +1,5 @@
 -- `open_first` meets its contract: a part of each column is lent, and comes back before the rest. Assumes nothing.
-use Rattle.turns.proofs.Parts.{part_count, opens_parts}
-use borrow.Author.Rules.{rules}
+use Rattle.turns.proofs.Parts.{opens_parts}
 use Rattle.turns.proofs.opening.open_first.Goals as goal
 
 pub returns : goal.returns

@@ -2,7 +2,6 @@
 use Rattle.rules.specs.Box.{reply}
 use Rattle.lent.specs.Lent.{lent}
 use Rattle.turns.proofs.Turning.{carried_say, carried_ask, carried_silent}
-use borrow.Author.Rules.{rules}
 use Rattle.turns.proofs.playing.carry_out.Goals as goal
 
 pub returns-in-Say : goal.returns-in-Say

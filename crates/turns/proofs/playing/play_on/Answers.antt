@@ -1,9 +1,9 @@
 -- `play_on` meets its contract. The loop's invariant: the columns and the output keep their lengths, the places are inside, whether the box is
 -- sound is known, and what is done and what is left to do come to what all comes to. The measure is the bytes and the room that are left, and
 -- one while it goes on. Assumes nothing.
-use Prim.Native.Nat.{◌+◌, ◌-◌, ◌≤◌}
+use Prim.Native.Nat.{◌-◌}
 use mathlib.Core.Bool.{false}
-use mathlib.Core.Path.{◌≡◌, refl, sym, ◌∙◌}
+use mathlib.Core.Path.{refl, sym, ◌∙◌}
 use native.Mathlib.Omega.{arith}
 use lib.ListN.{length, drop}
 use Rattle.rules.specs.Parts.{Box}
@@ -11,8 +11,7 @@ use Rattle.rules.specs.Box.{sound}
 use Rattle.lent.specs.Lent.{state_of, lent}
 use Rattle.pieces.specs.Pieces.{at, play_piece}
 use Rattle.turns.specs.Outcome.{outcome, rest_of, to_go}
-use Rattle.turns.proofs.Turning.{begins, ends, counts, turn_less, turn_same}
-use borrow.Author.Rules.{rules}
+use Rattle.turns.proofs.Turning.{begins, ends, turn_less, turn_same}
 use Rattle.turns.proofs.playing.play_on.Goals as goal
 
 pub loop-going-init : goal.loop-going-init

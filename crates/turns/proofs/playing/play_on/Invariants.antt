@@ -2,17 +2,13 @@
 -- sound is known, and what is done and what is left to do come to what all comes to. The measure is the bytes and the room that are left, and
 -- one while it goes on. Assumes nothing.
 use Prim.Native.Nat.{◌+◌, ◌-◌, ◌≤◌}
-use mathlib.Core.Bool.{false}
-use mathlib.Core.Path.{◌≡◌, refl, sym, ◌∙◌}
-use native.Mathlib.Omega.{arith}
+use mathlib.Core.Path.{◌≡◌}
 use lib.ListN.{length, drop}
-use Rattle.rules.specs.Parts.{Box}
 use Rattle.rules.specs.Box.{sound}
-use Rattle.lent.specs.Lent.{state_of, lent}
+use Rattle.lent.specs.Lent.{lent}
 use Rattle.pieces.specs.Pieces.{at, play_piece}
 use Rattle.turns.specs.Outcome.{outcome, rest_of, to_go}
-use Rattle.turns.proofs.Turning.{begins, ends, counts, turn_less, turn_same}
-use borrow.Author.Rules.{rules}
+use Rattle.turns.proofs.Turning.{counts}
 use Rattle.turns.proofs.playing.play_on.Given as goal
 
 abbrev pub invariant-loop-going : goal.invariant-loop-going

@@ -1,6 +1,5 @@
 -- `print` meets its contract, deed by deed. Assumes nothing.
 use Rattle.turns.proofs.Turning.{printed_say, printed_step, printed_ask, printed_silent}
-use borrow.Author.Rules.{rules}
 use Rattle.turns.proofs.playing.print.Goals as goal
 
 pub returns-in-Say : goal.returns-in-Say

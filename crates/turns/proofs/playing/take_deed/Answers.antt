@@ -5,7 +5,6 @@ use lib.ListN.{length, drop}
 use Rattle.lent.specs.Lent.{lent}
 use Rattle.pieces.specs.Pieces.{next}
 use Rattle.turns.proofs.Turning.{no_step, carried_small, move_goes, move_waits, turn_waits, turn_goes}
-use borrow.Author.Rules.{rules}
 use Rattle.turns.proofs.playing.take_deed.Goals as goal
 
 pub returns-in_default : goal.returns-in_default

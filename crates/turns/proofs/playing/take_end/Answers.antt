@@ -1,6 +1,5 @@
 -- `take_end` meets its contract: bytes behind the end, or nothing more to do. Assumes nothing.
 use Rattle.turns.proofs.Turning.{turn_behind, turn_over}
-use borrow.Author.Rules.{rules}
 use Rattle.turns.proofs.playing.take_end.Goals as goal
 
 pub returns-then-used-input : goal.returns-then-used-input

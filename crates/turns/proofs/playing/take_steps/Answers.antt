@@ -2,7 +2,6 @@
 use native.Mathlib.Omega.{arith}
 use Rattle.lent.specs.Lent.{lent}
 use Rattle.turns.proofs.StepLaws.{turn_steps}
-use borrow.Author.Rules.{rules}
 use Rattle.turns.proofs.playing.take_steps.Goals as goal
 
 pub returns : goal.returns

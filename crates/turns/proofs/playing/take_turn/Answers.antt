@@ -1,8 +1,6 @@
 -- `take_turn` meets its contract: no room for a line, a deed, steps, or nothing more to do. Assumes nothing.
-use native.Mathlib.Omega.{arith}
 use Rattle.lent.specs.Lent.{lent}
 use Rattle.turns.proofs.Turning.{turn_full}
-use borrow.Author.Rules.{rules}
 use Rattle.turns.proofs.playing.take_turn.Goals as goal
 
 pub returns-then-out-written-lt3 : goal.returns-then-out-written-lt3

@@ -1,9 +1,5 @@
 -- `State::can_leave` equals the definition `can_leave`, by its cases. Assumes nothing.
-use borrow.Author.Rules.{rules}
-use Prim.Native.Nat.{◌+◌, ◌<◌}
-use Rattle.collector.proofs.Compare.{reached}
 use Rattle.collector.proofs.Moving.{stays_far, stays_refused, leaves_last, leaves_inner}
-use native.Mathlib.Omega.{arith}
 use mathlib.Core.Path.{sym, ◌∙◌}
 use Rattle.collector.proofs.state.State.can_leave.Goals as goal
 

@@ -1,6 +1,5 @@
 -- `State::copy_word` equals the definition `copy_word`, by its two cases. Assumes nothing.
 use Rattle.collector.specs.Boxed.{boxed}
-use borrow.Author.Rules.{rules}
 use Rattle.collector.proofs.Moving.{copy_below, copy_above}
 use Rattle.collector.proofs.state.State.copy_word.Goals as goal
 

@@ -1,11 +1,9 @@
 -- `State::end_marking` equals the definition `end_marking`, by its cases. Assumes nothing.
-use mathlib.Core.List.{[]}
 use mathlib.Core.Path.{sym, ◌∙◌}
-use Rattle.collector.specs.Boxed.{blank, boxed}
+use Rattle.collector.specs.Boxed.{boxed}
 use Rattle.collector.specs.Decide.{with_grant}
 use Rattle.collector.proofs.Granting.{thirty, nine}
 use Rattle.collector.proofs.Rooting.{marking_refused, marking_ended, marking_sweeps}
-use borrow.Author.Rules.{rules}
 use Rattle.collector.proofs.state.State.end_marking.Goals as goal
 
 pub returns-then-end_refused : goal.returns-then-end_refused

@@ -1,5 +1,4 @@
 -- `State::end_refused` equals the definition `end_refused`, by its cases. Assumes nothing.
-use borrow.Author.Rules.{rules}
 use Rattle.collector.proofs.Ending.{ends_unheld, ends_roomless, ends_granted, refused_entry, refused_register}
 use mathlib.Core.Path.{sym, ◌∙◌}
 use Rattle.collector.proofs.state.State.end_refused.Goals as goal

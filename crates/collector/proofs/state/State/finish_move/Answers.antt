@@ -1,17 +1,14 @@
 -- `State::finish_move` equals the definition `finish_move`, by its cases: whether the sweep can leave is decided before the
 -- entry is written. Assumes nothing.
 use mathlib.Core.List.{[]}
-use Prim.Native.Nat.{◌+◌, ◌<◌}
 use native.Mathlib.Omega.{arith}
 use mathlib.Core.Path.{sym, ◌∙◌}
 use lib.ListN.{set}
 use Rattle.collector.specs.Boxed.{blank, boxed}
 use Rattle.collector.specs.Decide.{with_grant}
-use Rattle.collector.proofs.Compare.{reached}
 use Rattle.collector.proofs.Entries.{entry_small}
 use Rattle.collector.proofs.Granting.{nine}
 use Rattle.collector.proofs.Moving.{finish_no_entry, finish_over, finish_refused, finish_left}
-use borrow.Author.Rules.{rules}
 use Rattle.collector.proofs.state.State.finish_move.Goals as goal
 
 pub bounds-addresses-i : goal.bounds-addresses-i

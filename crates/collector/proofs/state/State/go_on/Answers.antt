@@ -1,6 +1,5 @@
 -- `State::go_on` equals the definition `go_on`: the handle is the upper half of the word at a. Assumes nothing.
 use Rattle.collector.specs.Boxed.{boxed}
-use borrow.Author.Rules.{rules}
 use Rattle.collector.proofs.Sweeping.{goes_on}
 use Rattle.collector.proofs.state.State.go_on.Goals as goal
 

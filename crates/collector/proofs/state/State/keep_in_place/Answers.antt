@@ -11,7 +11,6 @@ use Rattle.rules.specs.Request.{no_room}
 use Rattle.collector.specs.Decide.{end_refused, with_grant}
 use Rattle.collector.proofs.Granting.{thirty, nine}
 use Rattle.collector.proofs.Sweeping.{keep_refused, keep_ended, keep_on, keep_far}
-use borrow.Author.Rules.{rules}
 use Rattle.collector.proofs.state.State.keep_in_place.Goals as goal
 
 pub returns-then-end_refused : goal.returns-then-end_refused

@@ -1,8 +1,6 @@
 -- `State::mark_add` equals the definition `mark_add`, by its two cases. Assumes nothing.
-use Rattle.collector.specs.Boxed.{blank, boxed}
+use Rattle.collector.specs.Boxed.{boxed}
 use Rattle.collector.proofs.Marking.{mark_add_done, mark_add_refused}
-use mathlib.Core.List.{[]}
-use borrow.Author.Rules.{rules}
 use mathlib.Core.Path.{sym, ◌∙◌}
 use Rattle.collector.proofs.state.State.mark_add.Goals as goal
 

@@ -3,7 +3,6 @@ use Rattle.collector.specs.Boxed.{blank, boxed}
 use Rattle.rules.specs.Collector.{scan_next}
 use Rattle.collector.proofs.Granting.{calm_reply, calm_grants, scan_next_calm}
 use Rattle.collector.proofs.Rooting.{next_root, next_scan}
-use borrow.Author.Rules.{rules}
 use Rattle.collector.proofs.state.State.mark_next.Goals as goal
 
 pub returns-then-self-eq0 : goal.returns-then-self-eq0

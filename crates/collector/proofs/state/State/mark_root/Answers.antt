@@ -1,11 +1,9 @@
 -- `State::mark_root` equals the definition `mark_root` at what the look at the registers found, by its cases. Assumes nothing.
-use mathlib.Core.List.{[]}
 use mathlib.Core.Path.{sym, ◌∙◌}
-use Rattle.collector.specs.Boxed.{blank, boxed}
+use Rattle.collector.specs.Boxed.{boxed}
 use Rattle.collector.specs.Decide.{with_grant}
 use Rattle.collector.proofs.Granting.{thirty, nine}
 use Rattle.collector.proofs.Rooting.{root_none, root_shaded, root_refused}
-use borrow.Author.Rules.{rules}
 use Rattle.collector.proofs.state.State.mark_root.Goals as goal
 
 pub returns-then-can_shade : goal.returns-then-can_shade

@@ -1,9 +1,7 @@
 -- `State::mark_scan` equals the definition `mark_scan`, by its cases. Assumes nothing.
 use Rattle.collector.specs.Boxed.{boxed}
 use Rattle.collector.proofs.Marking.{mark_scan_word, mark_scan_refused, mark_scan_behind}
-use borrow.Author.Rules.{rules}
 use mathlib.Core.Path.{sym, ◌∙◌}
-use borrow.Author.Tests.{ltb-true}
 use Rattle.collector.proofs.state.State.mark_scan.Goals as goal
 
 pub returns-then-self-index : goal.returns-then-self-index

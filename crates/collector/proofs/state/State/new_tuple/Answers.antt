@@ -1,11 +1,9 @@
 -- `State::new_tuple` meets its contract: the law `made` of a new tuple, at what its callees ensure. Assumes nothing.
 use mathlib.Core.Bool.{false, not}
 use lib.Dec.{eqb}
-use lib.ListN.{length, set, length-set}
+use lib.ListN.{set}
 use Rattle.collector.specs.Boxed.{boxed}
-use Rattle.collector.proofs.Bounds.{below, below_room}
 use Rattle.collector.proofs.Tuples.{made}
-use borrow.Author.Rules.{rules}
 use Rattle.collector.proofs.state.State.new_tuple.Goals as goal
 
 pub returns : goal.returns

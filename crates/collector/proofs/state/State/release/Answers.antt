@@ -2,7 +2,6 @@
 use lib.ListN.{set}
 use Rattle.rules.specs.Parts.{with_size}
 use Rattle.collector.specs.Boxed.{boxed}
-use borrow.Author.Rules.{rules}
 use Rattle.collector.proofs.Sweeping.{release_on, release_far, release_zero}
 use Rattle.collector.proofs.state.State.release.Goals as goal
 

@@ -1,5 +1,4 @@
 -- `State::scan` equals the definition `scan`, by computing it. Assumes nothing.
-use borrow.Author.Rules.{rules}
 use Rattle.rules.specs.Collector.{scan}
 use mathlib.Core.Path.{refl}
 use Rattle.collector.proofs.state.State.scan.Goals as goal

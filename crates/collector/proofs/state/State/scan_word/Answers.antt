@@ -1,6 +1,5 @@
 -- `State::scan_word` equals the definition `scan_word`, by its two cases. Assumes nothing.
 use Rattle.collector.specs.Boxed.{boxed}
-use borrow.Author.Rules.{rules}
 use Rattle.collector.proofs.Marking.{scan_word_pointer, scan_word_passed}
 use mathlib.Core.Path.{sym, ◌∙◌}
 use Rattle.collector.proofs.state.State.scan_word.Goals as goal

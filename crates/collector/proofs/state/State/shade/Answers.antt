@@ -1,14 +1,13 @@
 -- `State::shade` equals the definition `shade`: each way through the code is one case of it. That h can be shaded gives the
 -- index and the total their bounds. Assumes nothing.
-use Prim.Native.Nat.{◌*◌, ◌^◌, ◌<◌}
-use mathlib.Core.Bool.{true, false}
+use mathlib.Core.Bool.{false}
 use mathlib.Core.List.{[]}
 use borrow.Author.Tests.{not-true, not-false}
-use lib.ListN.{length, get_or, length-set}
+use lib.ListN.{length, get_or}
 use Rattle.rules.specs.Parts.{Box}
 use Rattle.collector.specs.Boxed.{blank, boxed}
 use Rattle.rules.specs.Place.{list_next, mark_live}
-use Rattle.collector.proofs.Bounds.{below, by_four, sum_fits, total_fits}
+use Rattle.collector.proofs.Bounds.{below, sum_fits, total_fits}
 use Rattle.collector.proofs.Shading.{shadable_small, shadable_total, shade_marked, shade_shallow, shade_deep}
 use Rattle.collector.proofs.state.State.shade.Goals as goal
 

@@ -1,5 +1,4 @@
 -- `State::start_zero` equals the definition `start_zero`, by its two cases. Assumes nothing.
-use borrow.Author.Rules.{rules}
 use Rattle.collector.proofs.Sweeping.{zero_live, zero_whole}
 use Rattle.collector.proofs.state.State.start_zero.Goals as goal
 

@@ -1,13 +1,9 @@
 -- `State::sweep_read` equals the definition `sweep_read`, by its cases. Assumes nothing.
-use Prim.Native.Nat.{◌+◌, ◌<◌}
-use native.Mathlib.Omega.{arith}
 use mathlib.Core.Path.{sym, ◌∙◌}
 use Rattle.collector.specs.Boxed.{boxed}
 use Rattle.collector.specs.Decide.{with_grant}
-use Rattle.collector.proofs.Compare.{reached}
 use Rattle.collector.proofs.Granting.{thirty, nine}
 use Rattle.collector.proofs.Moving.{read_word, read_refused, read_behind}
-use borrow.Author.Rules.{rules}
 use Rattle.collector.proofs.state.State.sweep_read.Goals as goal
 
 pub returns-then-self-index : goal.returns-then-self-index

@@ -1,16 +1,12 @@
 -- `State::sweep_tuple` equals the definition `sweep_tuple`, by its cases. Assumes nothing.
 use mathlib.Core.List.{[]}
-use Prim.Native.Nat.{◌+◌, ◌<◌}
-use native.Mathlib.Omega.{arith}
 use mathlib.Core.Path.{sym, ◌∙◌}
 use Rattle.rules.specs.Parts.{with_size}
 use Rattle.collector.specs.Boxed.{blank, boxed}
 use Rattle.rules.specs.Collector.{start_move, release}
 use Rattle.collector.specs.Decide.{with_grant}
-use Rattle.collector.proofs.Compare.{reached}
 use Rattle.collector.proofs.Granting.{thirty, nine, calm_reply, calm_grants, release_calm}
 use Rattle.collector.proofs.Sweeping.{tuple_kept, tuple_moves, tuple_released, tuple_far}
-use borrow.Author.Rules.{rules}
 use Rattle.collector.proofs.state.State.sweep_tuple.Goals as goal
 
 pub returns-then-src-self : goal.returns-then-src-self

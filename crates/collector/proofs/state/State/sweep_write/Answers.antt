@@ -1,10 +1,6 @@
 -- `State::sweep_write` equals the definition `sweep_write`, by its two cases. Assumes nothing.
 use Rattle.collector.specs.Boxed.{boxed}
-use borrow.Author.Rules.{rules}
-use Prim.Native.Nat.{◌+◌, ◌<◌}
-use Rattle.collector.proofs.Compare.{reached}
 use Rattle.collector.proofs.Moving.{write_done, write_refused}
-use native.Mathlib.Omega.{arith}
 use mathlib.Core.Path.{sym, ◌∙◌}
 use Rattle.collector.proofs.state.State.sweep_write.Goals as goal
 

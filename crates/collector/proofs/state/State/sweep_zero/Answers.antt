@@ -1,12 +1,9 @@
 -- `State::sweep_zero` equals the definition `sweep_zero`, by its cases. Assumes nothing.
-use mathlib.Core.List.{[]}
 use mathlib.Core.Path.{sym, ◌∙◌}
-use Rattle.collector.specs.Boxed.{blank, boxed}
+use Rattle.collector.specs.Boxed.{boxed}
 use Rattle.collector.specs.Decide.{with_grant}
-use Rattle.collector.proofs.Compare.{reached}
 use Rattle.collector.proofs.Granting.{thirty, nine}
 use Rattle.collector.proofs.Moving.{leave_refused, zero_done, zero_refused, zero_behind}
-use borrow.Author.Rules.{rules}
 use Rattle.collector.proofs.state.State.sweep_zero.Goals as goal
 
 pub returns-then-can_leave : goal.returns-then-can_leave

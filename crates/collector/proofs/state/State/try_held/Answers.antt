@@ -6,7 +6,6 @@ use Rattle.collector.specs.Boxed.{blank, boxed}
 use Rattle.collector.specs.Decide.{with_grant}
 use Rattle.collector.proofs.Granting.{eight, thirty_three, grants_held}
 use Rattle.collector.proofs.Ending.{try_dropped, try_waits, try_granted}
-use borrow.Author.Rules.{rules}
 use Rattle.collector.proofs.state.State.try_held.Goals as goal
 
 pub returns-then-self : goal.returns-then-self

@@ -1,5 +1,4 @@
 -- `State::zero_word` equals the definition `zero_word`, by computing it. Assumes nothing.
-use borrow.Author.Rules.{rules}
 use Rattle.rules.specs.Collector.{zero_word}
 use mathlib.Core.Path.{refl}
 use Rattle.collector.proofs.state.State.zero_word.Goals as goal
