@@ -10,7 +10,7 @@ fn main() {
     println!("cargo::rerun-if-changed={}", library.display());
     if !library.exists() {
         // `cargo check` needs no library; whatever is linked does, and fails.
-        println!("cargo::warning=target/staticlib/libcapi.a is missing: run `rt staticlib capi` first, in the root of the repository");
+        println!("cargo::warning=target/staticlib/libcapi.a is missing: run `tools/build` first, in the root of the repository");
     }
     println!("cargo::rustc-link-search=native={}", folder.display());
     println!("cargo::rustc-link-lib=static=capi");

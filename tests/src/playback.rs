@@ -136,7 +136,7 @@ pub fn program() -> PathBuf {
     let path = Path::new(env!("CARGO_MANIFEST_DIR")).join("../target/bin/play");
     assert!(
         path.exists(),
-        "target/bin/play is missing: `rt check play`, in the root of the repository, builds it"
+        "target/bin/play is missing: `tools/build`, in the root of the repository, builds it"
     );
     path
 }

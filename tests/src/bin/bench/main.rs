@@ -4,7 +4,7 @@
 //!     cargo run --release --offline --bin bench
 //!
 //! It needs the library of the C interface and the program `play`, which
-//! `rt staticlib capi && rt check play` build in the root of the repository.
+//! `tools/build` builds in the root of the repository.
 //! Records are grown on the second program. What both programs print must be
 //! its answers, byte for byte, before anything is timed. Ratios are processor
 //! times in one run, the least of several.
