@@ -1,6 +1,6 @@
 -- Whole strings, there and back. `Records` and `String` say what a string is made of; what they describe is read to 0 and written to 0, and what is
 -- read or written to 0 is described by them. By induction on the records, with as many turns as there are bytes or numbers. Assumes nothing.
-use Prim.Native.Nat.{ℕ, zero, suc, ◌-◌, ◌≤◌, ◌<◌}
+use Prim.Native.Nat.{ℕ, zero, suc, ◌≤◌, ◌<◌}
 use mathlib.Core.Bool.{Bool, true, false, cond}
 use mathlib.Core.List.{List, [], ◌∷◌, ◌++◌, append-nil}
 use mathlib.Core.Option.{Option, none, some}

@@ -1,6 +1,5 @@
 -- `asked::request_of` meets its contract: the definition computes at each kind's number. Assumes nothing.
 use native.Mathlib.Omega.{arith}
-use borrow.Author.Rules.{rules}
 use Rattle.record.specs.Requests.{request_of}
 use Rattle.record.proofs.Requests.{of_kind, of_none}
 use Rattle.record.proofs.asked.request_of.Goals as goal

@@ -1,6 +1,5 @@
 -- `field_at` meets its contract, by the laws of a field at a place. Assumes nothing.
 use Rattle.record.proofs.Entries.{field_small, field_large, field_none}
-use borrow.Author.Rules.{rules}
 use Rattle.record.proofs.entry.field_at.Goals as goal
 
 pub returns-in_default : goal.returns-in_default

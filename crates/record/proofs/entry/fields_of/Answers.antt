@@ -1,7 +1,7 @@
 -- `fields_of` meets its contract: the table of kinds computes at each of its numbers, and has no more. Assumes nothing.
 use borrow.Author.Rules.{rules}
 use native.Mathlib.Omega.{arith}
-use mathlib.Core.Logic.{inl, inr, ⊎_elim}
+use mathlib.Core.Logic.{⊎_elim}
 use mathlib.Core.Path.{◌≡◌, refl}
 use Rattle.record.specs.Fields.{row, kinds}
 use Rattle.record.specs.Found.{fields_in}

@@ -2,7 +2,6 @@
 use mathlib.Core.List.{[], ◌∷◌}
 use Rattle.record.specs.Fields.{most16, editions}
 use Rattle.record.proofs.Entries.{entry_none, entry_known, entry_unknown, no_edition}
-use borrow.Author.Rules.{rules}
 use Rattle.record.proofs.entry.head_of.Goals as goal
 
 pub returns-in_default : goal.returns-in_default

@@ -4,7 +4,6 @@ use mathlib.Core.Path.{refl}
 use Rattle.record.specs.Fields.{most16, kinds}
 use Rattle.record.proofs.Entries.{entry_none, entry_known, entry_unknown}
 use Rattle.record.proofs.KindTable.{kind_shape, no_shape}
-use borrow.Author.Rules.{rules}
 use Rattle.record.proofs.entry.record_at.Goals as goal
 
 pub returns-in_default : goal.returns-in_default

@@ -2,7 +2,6 @@
 use mathlib.Core.List.{[], ◌∷◌}
 use Rattle.record.specs.Fields.{most16, joined}
 use Rattle.record.proofs.Entries.{first_refused, two_refused, two_whole}
-use borrow.Author.Rules.{rules}
 use Rattle.record.proofs.entry.sizes.Goals as goal
 
 pub returns-in_default : goal.returns-in_default

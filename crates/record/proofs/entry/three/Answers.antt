@@ -3,7 +3,6 @@ use mathlib.Core.List.{[], ◌∷◌}
 use lib.ListN.{drop}
 use Rattle.record.specs.Fields.{most16, field, joined}
 use Rattle.record.proofs.Entries.{first_found, first_refused, place_back, no_fields}
-use borrow.Author.Rules.{rules}
 use Rattle.record.proofs.entry.three.Goals as goal
 
 pub returns-in_default : goal.returns-in_default

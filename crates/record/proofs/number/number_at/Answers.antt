@@ -2,7 +2,6 @@
 use Prim.Native.Nat.{◌+◌}
 use native.Mathlib.Omega.{arith}
 use Rattle.record.proofs.Groups.{number_cut, number_alone, number_more_refused, number_more_found, found_fits}
-use borrow.Author.Rules.{rules}
 use Rattle.record.proofs.number.number_at.Goals as goal
 
 pub returns-then-bytes-at : goal.returns-then-bytes-at

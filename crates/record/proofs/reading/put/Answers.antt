@@ -1,8 +1,6 @@
 -- `put` meets its contract: two, three or four stores are a run of stores, and `size` says how many. Assumes nothing.
 use native.Mathlib.Omega.{arith}
-use lib.ListN.{length-set}
 use Rattle.record.proofs.Readings.{put_two, put_three, put_four}
-use borrow.Author.Rules.{rules}
 use Rattle.record.proofs.reading.put.Goals as goal
 
 pub returns-then-size-eq2 : goal.returns-then-size-eq2

@@ -1,10 +1,6 @@
--- `read` meets its contract. The loop's invariant: there are as many lent numbers as at its start, the places fit, and the call comes to
--- what it came to at the start. The measure is how many turns may be left. Assumes nothing.
-use mathlib.Core.Path.{◌≡◌, refl, ◌∙◌}
+-- `read` meets its contract: the head and then record after record, and what the loop's invariant leaves at the end. Assumes nothing.
+use mathlib.Core.Path.{refl, ◌∙◌}
 use native.Mathlib.Omega.{arith}
-use lib.ListN.{length}
-use borrow.Author.Rules.{rules}
-use Rattle.record.specs.Turns.{at_last, turns_left, Fit}
 use Rattle.record.proofs.Readings.{head_stands, too_few, head_refused, head_fits, head_turn, head_starts, read_ends}
 use Rattle.record.proofs.reading.read.Goals as goal
 

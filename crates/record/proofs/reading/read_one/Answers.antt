@@ -2,7 +2,6 @@
 -- to as it was. A record's numbers have places, since each took a byte. Assumes nothing.
 use native.Mathlib.Omega.{arith}
 use Rattle.record.proofs.Readings.{record_stands, turn_refused, turn_end, size_fits, places_fit, turn_item}
-use borrow.Author.Rules.{rules}
 use Rattle.record.proofs.reading.read_one.Goals as goal
 
 pub returns-in_default : goal.returns-in_default

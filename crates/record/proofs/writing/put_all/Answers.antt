@@ -2,7 +2,6 @@
 use mathlib.Core.Path.{◌∙◌}
 use native.Mathlib.Omega.{arith}
 use Rattle.record.proofs.WritingAll.{all_missing, all_stopped, all_taken}
-use borrow.Author.Rules.{rules}
 use Rattle.record.proofs.writing.put_all.Goals as goal
 
 pub returns-then-numbers-eq0 : goal.returns-then-numbers-eq0

@@ -1,6 +1,5 @@
 -- `writing::put_end` meets its contract: the end is the bytes of kind 0 and of the count, where the count has 32 bits. Assumes nothing.
 use Rattle.record.proofs.WritingRecords.{end_too_many, end_fits}
-use borrow.Author.Rules.{rules}
 use Rattle.record.proofs.writing.put_end.Goals as goal
 
 pub returns-then-records : goal.returns-then-records

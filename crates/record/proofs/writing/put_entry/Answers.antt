@@ -2,7 +2,6 @@
 use Prim.Native.Nat.{◌+◌}
 use lib.ListN.{get_or, drop}
 use Rattle.record.proofs.WritingEntries.{entry_unknown, entry_known}
-use borrow.Author.Rules.{rules}
 use Rattle.record.proofs.writing.put_entry.Goals as goal
 
 pub returns-then-count-eq0 : goal.returns-then-count-eq0

@@ -1,12 +1,11 @@
--- `writing::put_fields` meets its contract. The loop's invariant: what is stored and what the numbers left give are together what the
--- fields give. The measure is how many limits are left. Assumes nothing.
-use Prim.Native.Nat.{ℕ, ◌-◌, ◌≤◌}
+-- `writing::put_fields` meets its contract: each turn stores a number or refuses it. Assumes nothing.
+use Prim.Native.Nat.{ℕ, ◌≤◌}
 use mathlib.Core.List.{List}
-use mathlib.Core.Path.{◌≡◌, refl, ◌∙◌}
+use mathlib.Core.Path.{◌≡◌, ◌∙◌}
 use native.Mathlib.Omega.{arith}
 use borrow.Author.Rules.{rules}
-use lib.ListN.{length, take}
-use Rattle.record.proofs.WritingEntries.{Partly, fields_start, fields_turn, fields_missing, fields_above, fields_end}
+use lib.ListN.{length}
+use Rattle.record.proofs.WritingEntries.{fields_turn, fields_missing, fields_above, fields_end}
 use Rattle.record.proofs.writing.put_fields.Goals as goal
 
 enough : (most : List ℕ) (count : ℕ) → count ≤ 3 → length most ≡ 3 → count ≤ length most

@@ -1,10 +1,6 @@
--- `writing::put_records` meets its contract. The loop's invariant: what is stored and what the records left give are together what all
--- records give. The measure is how many numbers are left. Assumes nothing.
-use Prim.Native.Nat.{◌-◌}
-use mathlib.Core.Path.{◌≡◌, refl, ◌∙◌}
-use native.Mathlib.Omega.{arith}
-use lib.ListN.{length}
-use Rattle.record.proofs.WritingRecords.{Recorded, records_start, records_turn, records_stop, records_end}
+-- `writing::put_records` meets its contract: each turn stores a record or refuses it, and the end is behind them. Assumes nothing.
+use mathlib.Core.Path.{◌∙◌}
+use Rattle.record.proofs.WritingRecords.{records_turn, records_stop, records_end}
 use Rattle.record.proofs.writing.put_records.Goals as goal
 
 pub returns-then-answer-ne0 : goal.returns-then-answer-ne0

@@ -1,7 +1,7 @@
 -- `writing::record_limits` meets its contract: each arm is a row of the table, and the last what it does not have. Assumes nothing.
 use native.Mathlib.Omega.{arith}
 use Rattle.record.specs.WritingSteps.{record_kinds}
-use Rattle.record.proofs.WritingTables.{is_number, kind_zero, kind_one, kind_two, kind_three_four, kind_five_to_seven, kind_eight_nine, kind_ten, kind_eleven, kind_above}
+use Rattle.record.proofs.WritingTables.{is_number, kind_one, kind_two, kind_three_four, kind_five_to_seven, kind_eight_nine, kind_ten, kind_eleven, kind_above}
 use Rattle.record.proofs.writing.record_limits.Goals as goal
 
 pub returns-in-1 : goal.returns-in-1

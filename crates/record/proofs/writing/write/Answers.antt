@@ -2,7 +2,6 @@
 -- the second, for which the lent bytes are enough, stores them all. Assumes nothing.
 use mathlib.Core.List.{[]}
 use Rattle.record.proofs.WritingAll.{write_refused, write_short, write_put}
-use borrow.Author.Rules.{rules}
 use Rattle.record.proofs.writing.write.Goals as goal
 
 pub returns-then-answer-ne0 : goal.returns-then-answer-ne0
