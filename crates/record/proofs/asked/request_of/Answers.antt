@@ -1,4 +1,5 @@
 -- `asked::request_of` meets its contract: the definition computes at each kind's number. Assumes nothing.
+use native.Mathlib.Omega.{arith}
 use Rattle.record.specs.Requests.{request_of}
 use Rattle.record.proofs.Requests.{of_kind, of_none}
 use Rattle.record.proofs.asked.request_of.Goals as goal
@@ -44,4 +45,4 @@ unfolding request_of
 returns-in-10 c = let a = c.args in of_kind 10 a.a a.b a.c c.in-10.is c.same.ensures
 
 pub returns-in_default : goal.returns-in_default
-returns-in_default c = let n = c.in_default.in_default-own.rest in of_none _ _ _ _ n.0.0.0.0.0.0.0.0.0.1 n.0.0.0.0.0.0.0.0.1 n.0.0.0.0.0.0.0.1 n.0.0.0.0.0.0.1 n.0.0.0.0.0.1 n.0.0.0.0.1 n.0.0.0.1 n.0.0.1 n.0.1 n.1
+returns-in_default c = of_none _ _ _ _ (omega arith) (omega arith) (omega arith) (omega arith) (omega arith) (omega arith) (omega arith) (omega arith) (omega arith) (omega arith)

@@ -1,6 +1,7 @@
 -- `fields_of` meets its contract: the table of kinds computes at each of its numbers, and has no more. Assumes nothing.
+use borrow.Author.Rules.{rules}
 use native.Mathlib.Omega.{arith}
-use mathlib.Core.Logic.{inl, inr, ⊎_elim}
+use mathlib.Core.Logic.{⊎_elim}
 use mathlib.Core.Path.{◌≡◌, refl}
 use Rattle.record.specs.Fields.{row, kinds}
 use Rattle.record.specs.Found.{fields_in}
@@ -16,7 +17,7 @@ returns-in-0 c = ⊎_elim (λ e. rw e) (⊎_elim (λ e. rw e) (λ e. rw e)) c.in
 pub returns-in_default : goal.returns-in_default
 returns-in_default c =
     let k = c.args.kind in
-    let n : k ≡ 11 → ⊥ = λ e. c.in_default.in_default-own.rest.0.0.1 (inr (inr e)) in
+    let n : k ≡ 11 → ⊥ = search rules in
     rw (no_kind k (omega arith))
 
 -- 10
@@ -43,8 +44,8 @@ pub returns-in-1-2 : goal.returns-in-1-2
 unfolding kinds row
 returns-in-1-2 c =
     let k = c.args.kind in
-    let m : k ≡ 0 → ⊥ = λ e. c.in-1.in_default-own.rest.0.0.1 (inl e) in
-    let n : k ≡ 2 → ⊥ = λ e. c.in-1.in_default-own.rest.0.0.1 (inr (inl e)) in
+    let m : k ≡ 0 → ⊥ = search rules in
+    let n : k ≡ 2 → ⊥ = search rules in
     each (λ j. 2 ≡ fields_in (kinds j)) 3 2 (refl, (refl, tt)) k (omega arith) (omega arith)
 
 -- 8 and 9

@@ -1,5 +1,4 @@
--- `read` meets its contract. The loop's invariant: there are as many lent numbers as at its start, the places fit, and the call comes to
--- what it came to at the start. The measure is how many turns may be left. Assumes nothing.
+-- `read` meets its contract: the head and then record after record, and what the loop's invariant leaves at the end. Assumes nothing.
 use mathlib.Core.Path.{refl, ◌∙◌}
 use native.Mathlib.Omega.{arith}
 use Rattle.record.proofs.Readings.{head_stands, too_few, head_refused, head_fits, head_turn, head_starts, read_ends}

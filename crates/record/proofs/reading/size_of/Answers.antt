@@ -1,4 +1,5 @@
 -- `size_of` meets its contract: the table of kinds computes at each of its numbers, and has no more. Assumes nothing.
+use native.Mathlib.Omega.{arith}
 use Rattle.record.specs.Fields.{row, kinds}
 use Rattle.record.specs.Turns.{size_of}
 use Rattle.record.proofs.KindTable.{none_of_these}
@@ -54,4 +55,4 @@ returns-in-11 c = rw c.in-11.is
 
 pub returns-in_default : goal.returns-in_default
 unfolding size_of
-returns-in_default c = let r = c.in_default.in_default-own.rest in rw (none_of_these c.args.kind (r.0.0.0.0.0.0.0.0.0.0.0.1, (r.0.0.0.0.0.0.0.0.0.0.1, (r.0.0.0.0.0.0.0.0.0.1, (r.0.0.0.0.0.0.0.0.1, (r.0.0.0.0.0.0.0.1, (r.0.0.0.0.0.0.1, (r.0.0.0.0.0.1, (r.0.0.0.0.1, (r.0.0.0.1, (r.0.0.1, (r.0.1, (r.1, tt)))))))))))))
+returns-in_default c = rw (none_of_these c.args.kind (omega arith, (omega arith, (omega arith, (omega arith, (omega arith, (omega arith, (omega arith, (omega arith, (omega arith, (omega arith, (omega arith, (omega arith, tt)))))))))))))

@@ -1,5 +1,4 @@
--- `writing::put_fields` meets its contract. The loop's invariant: what is stored and what the numbers left give are together what the
--- fields give. The measure is how many limits are left. Assumes nothing.
+-- `writing::put_fields` meets its contract: each turn stores a number or refuses it. Assumes nothing.
 use Prim.Native.Nat.{ℕ, ◌≤◌}
 use mathlib.Core.List.{List}
 use mathlib.Core.Path.{◌≡◌, ◌∙◌}

@@ -1,5 +1,4 @@
--- `writing::put_number` meets its contract. The loop's invariant: the groups stored and the groups left give the number's bytes together.
--- The measure is what is left of the number. Assumes nothing.
+-- `writing::put_number` meets its contract: each turn stores a group, and the last group is behind them. Assumes nothing.
 use Prim.Native.Nat.{◌+◌, ◌-◌}
 use mathlib.Core.Path.{refl, ◌∙◌}
 use native.Mathlib.Omega.{arith}

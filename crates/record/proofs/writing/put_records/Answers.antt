@@ -1,8 +1,10 @@
--- `writing::put_records` meets its contract. The loop's invariant: what is stored and what the records left give are together what all
--- records give. The measure is how many numbers are left. Assumes nothing.
-use mathlib.Core.Path.{◌∙◌}
-use Rattle.record.proofs.WritingRecords.{records_turn, records_stop, records_end}
+-- `writing::put_records` meets its contract: each turn stores a record or refuses it, and the end is behind them. Assumes nothing.
+use mathlib.Core.Path.{refl, ◌∙◌}
+use Rattle.record.proofs.WritingRecords.{records_start, records_turn, records_stop, records_end}
 use Rattle.record.proofs.writing.put_records.Goals as goal
+
+pub loop-next-init : goal.loop-next-init
+loop-next-init c = let a = c.args in (refl, records_start a.numbers.now a.bytes.now a.at a.to c.requires.0 c.requires.1)
 
 pub returns-then-answer-ne0 : goal.returns-then-answer-ne0
 returns-then-answer-ne0 c =
