@@ -1,7 +1,10 @@
--- The bytes at hand, moved to the front. By lists. Assumes nothing.
-use Rattle.std.proofs.Common.{ℕ, ◌+◌, ◌<◌, List, ◌≡◌, sym, ◌∙◌, ap, arith, add-one, length, get_or, set, take, drop, length-drop}
-use Rattle.std.proofs.lemmas.List.{drop-set-lt, drop-drop, get_or-drop}
+-- The bytes at hand, moved to the front, with more behind them. By lists. Assumes nothing.
+use Rattle.std.proofs.Common.{ℕ, ◌+◌, ◌-◌, ◌≤◌, ◌<◌, true, List, ◌≡◌, sym, ◌∙◌, ap, arith, add-one, eqb, length, get_or, set, take, drop, length-take, length-drop}
+use Rattle.std.proofs.lemmas.Bool.{eq-eqb}
+use Rattle.std.proofs.lemmas.List.{drop-set-lt, drop-drop, drop-take, get_or-drop}
 use Rattle.std.proofs.Math.Seq.{take-suc, take-suc-set}
+use Rattle.play.specs.declared.Reader.{Reader}
+use Rattle.play.specs.Hand.{at_hand}
 
 -- one more byte is moved
 module _ (l0 l : List ℕ) (from i : ℕ) (same : length l ≡ length l0) (inside : from + i < length l0) (done : take i l ≡ take i (drop from l0)) (left : drop i l ≡ drop i l0) where
@@ -17,3 +20,21 @@ module _ (l0 l : List ℕ) (from i : ℕ) (same : length l ≡ length l0) (insid
   pub moved_left : drop (i + 1) (set l i (get_or l (from + i) 0)) ≡ drop (i + 1) l0
   moved_left =
       rw (drop-set-lt (i + 1) l i (get_or l (from + i) 0) (omega arith)) (sym (drop-drop 1 i l) ∙ ap (λ (x : List ℕ). drop 1 x) left ∙ drop-drop 1 i l0)
+
+-- the bytes at hand are at the front, and `got` more behind them
+module _ (r : Reader) (l l1 : List ℕ) (got : ℕ) (ordered : r.from ≤ r.till) (inside : r.till ≤ length l) where
+  hand_length : length (at_hand r l) ≡ r.till - r.from
+  hand_length = omega (arith, length-take (r.till - r.from) (drop r.from l), length-drop r.from l)
+
+  whole : take (r.till - r.from + got - 0) l1 ≡ take (r.till - r.from + got) l1
+  whole =
+      let z : r.till - r.from + got - 0 ≡ r.till - r.from + got = omega arith in
+      ap (λ (x : ℕ). take x l1) z
+
+  -- those that came stand there
+  pub came_behind : drop (length (at_hand r l)) (take (r.till - r.from + got - 0) l1) ≡ take got (drop (r.till - r.from) l1)
+  came_behind = rw (hand_length, whole) (drop-take (r.till - r.from) got l1)
+
+  -- where nothing stands there, none came
+  pub none_came : r.till - r.from + got ≤ length l1 → take (r.till - r.from + got - 0) l1 ≡ at_hand r l → eqb got 0 ≡ true
+  none_came room same = eq-eqb got 0 (omega (arith, hand_length, ap length (sym whole ∙ same), length-take (r.till - r.from + got) l1))

@@ -3,10 +3,11 @@
 // whose promise says it all. The box's columns are as large as the largest box.
 #![tactic(auto)]
 
-ghost use Rattle.std.specs.Prelude.{◌≡◌, ◌+◌, ◌-◌, ◌<◌, ◌≤◌, length, take, drop, IsTrue, IfOk, OnOk, OnErr, ◌↔◌};
+ghost use Rattle.std.specs.Prelude.{◌≡◌, ◌+◌, ◌-◌, ◌<◌, ◌≤◌, length, take, drop, IsTrue, IsFalse, IfOk, OnOk, OnErr, ◌↔◌};
 ghost use Rattle.std.specs.Io.KnownBytes.{Appends, Consumes, IsAtEnd, Keeps};
 ghost use Rattle.lent.specs.Lent.{lent};
 ghost use Rattle.player.specs.Promises.{Plays};
+ghost use Rattle.play.specs.declared.Reader.{Reader};
 ghost use Rattle.play.specs.Hand.{at_hand, Within, AtFront, Fed};
 
 use player::Place;
@@ -54,6 +55,8 @@ fn read_behind<R: Read>(source: &mut R, input: &mut [u8], n: usize) -> io::Resul
 fn more<R: Read>(source: &mut R, r: Reader, input: &mut [u8; 65536]) -> io::Result<Reader>
     requires { Within r 65536 }
     ensures ok { IfOk result (λ s. Fed r s input.old input.new) }
+    ensures came { IfOk result (λ s. Consumes (R.remaining source.old) (R.remaining source.new) (drop (length (at_hand r input.old)) (at_hand s input.new))) }
+    ensures last { IfOk result (λ s. at_hand s input.new ≡ at_hand r input.old → IsTrue s.last) }
     ensures err { OnErr result (AtFront r input.old input.new) }
 {
     let from = r.from;
@@ -76,6 +79,9 @@ fn more<R: Read>(source: &mut R, r: Reader, input: &mut [u8; 65536]) -> io::Resu
 fn fed<R: Read>(source: &mut R, r: Reader, input: &mut [u8; 65536]) -> io::Result<Reader>
     requires { Within r 65536 }
     ensures ok { IfOk result (λ s. Fed r s input.old input.new) }
+    ensures came { IfOk result (λ s. Consumes (R.remaining source.old) (R.remaining source.new) (drop (length (at_hand r input.old)) (at_hand s input.new))) }
+    ensures last { IsTrue r.wants → IfOk result (λ s. at_hand s input.new ≡ at_hand r input.old → IsTrue s.last) }
+    ensures as_it_was { IsFalse r.wants → (result ≡ Ok r) × (input.new ≡ input.old) }
     ensures err { OnErr result (AtFront r input.old input.new) }
 {
     let wants = r.wants;
@@ -106,7 +112,9 @@ fn print_out<W: Write>(sink: &mut W, out: &[u8; 65536], n: usize) -> io::Result<
 }
 
 // Whether there is something left to do: not after the last bytes where they give nothing more, and not where less was printed than was written.
-fn goes_on(printed: bool, wants: bool, last: bool) -> bool {
+fn goes_on(printed: bool, wants: bool, last: bool) -> bool
+    ensures { IsTrue result ↔ (IsTrue printed × (IsTrue wants → IsFalse last)) }
+{
     if printed {
         if wants {
             return !last;
@@ -184,7 +192,8 @@ fn turn<R: Read>(
     out: &mut [u8; 65536],
 ) -> io::Result<Reader>
     requires { Within r 65536 }
-    ensures ok { IfOk result (λ s. Within s 65536) }
+    ensures ok { IfOk result (λ t. Within t 65536) }
+    ensures played { IfOk result (λ t. (s : Reader) × Fed r s input.old input.new × Plays s.last s.place (at_hand s input.new) out.old out.new (lent numbers.old switches.old hold.old words.old flags.old addresses.old sizes.old links.old marks.old deeps.old) (lent numbers.new switches.new hold.new words.new flags.new addresses.new sizes.new links.new marks.new deeps.new) t.place (t.from - s.from) t.written t.wants × Consumes (R.remaining source.old) (R.remaining source.new) (drop (length (at_hand r input.old)) (at_hand s input.new))) }
     ensures err { OnErr result (AtFront r input.old input.new) }
     ensures not_played { OnErr result ((out.new ≡ out.old) × (lent numbers.new switches.new hold.new words.new flags.new addresses.new sizes.new links.new marks.new deeps.new ≡ lent numbers.old switches.old hold.old words.old flags.old addresses.old sizes.old links.old marks.old deeps.old)) }
 {
@@ -197,7 +206,9 @@ fn turn<R: Read>(
 // A proved loop has to end, and nothing says that the input does. So turns are counted down, from a number that no run uses up.
 fn turns_left(turns: u64, going: bool) -> u64
     requires { 0 < turns }
-    ensures { result < turns }
+    ensures fewer { result < turns }
+    ensures one_fewer { IsTrue going → result + 1 ≡ turns }
+    ensures none { IsFalse going → result ≡ 0 }
 {
     if going {
         return turns - 1;
