@@ -2,6 +2,7 @@
 -- nothing.
 use mathlib.Core.Bool.{true}
 use mathlib.Core.Path.{◌≡◌, refl, sym, ◌∙◌, ap}
+use native.Mathlib.Omega.{arith}
 use Rattle.rules.specs.Parts.{Box}
 use Rattle.rules.specs.Box.{sound}
 use Rattle.rules.specs.Collector.{step}
@@ -27,7 +28,7 @@ returns-then-answer-ne0 c =
     let a = c.args in
     let b : Box = (lent a.numbers.now a.switches.now a.hold.now a.words.now a.flags.now a.addresses.now a.sizes.now a.links.now a.marks.now a.deeps.now) in
     let s : sound b ≡ true = sym (c.sound.ensures b refl refl refl (refl, refl, refl, refl, refl, refl, refl)) ∙ c.if-sound.true in
-    word_done b s (lent c.word_step-answer.new.numbers c.word_step-answer.new.switches a.hold.now c.word_step-answer.new.words c.word_step-answer.new.flags a.addresses.now a.sizes.now a.links.now a.marks.now a.deeps.now) c.word_step-answer.result (c.word_step-answer.ensures a.addresses.now a.sizes.now a.links.now a.marks.now a.deeps.now) c.if-answer-ne0.true
+    word_done b s (lent c.word_step-answer.new.numbers c.word_step-answer.new.switches a.hold.now c.word_step-answer.new.words c.word_step-answer.new.flags a.addresses.now a.sizes.now a.links.now a.marks.now a.deeps.now) c.word_step-answer.result (c.word_step-answer.ensures a.addresses.now a.sizes.now a.links.now a.marks.now a.deeps.now) (λ z. omega (arith, z))
 
 pub steps-went-requires : goal.steps-went-requires
 unfolding state_of
@@ -35,7 +36,7 @@ steps-went-requires c =
     let a = c.args in
     let b : Box = (lent a.numbers.now a.switches.now a.hold.now a.words.now a.flags.now a.addresses.now a.sizes.now a.links.now a.marks.now a.deeps.now) in
     let s : sound b ≡ true = sym (c.sound.ensures b refl refl refl (refl, refl, refl, refl, refl, refl, refl)) ∙ c.if-sound.true in
-    ap sound (word_left b s (lent c.word_step-answer.new.numbers c.word_step-answer.new.switches a.hold.now c.word_step-answer.new.words c.word_step-answer.new.flags a.addresses.now a.sizes.now a.links.now a.marks.now a.deeps.now) c.word_step-answer.result (c.word_step-answer.ensures a.addresses.now a.sizes.now a.links.now a.marks.now a.deeps.now) c.if-answer-ne0.false) ∙ s
+    ap sound (word_left b s (lent c.word_step-answer.new.numbers c.word_step-answer.new.switches a.hold.now c.word_step-answer.new.words c.word_step-answer.new.flags a.addresses.now a.sizes.now a.links.now a.marks.now a.deeps.now) c.word_step-answer.result (c.word_step-answer.ensures a.addresses.now a.sizes.now a.links.now a.marks.now a.deeps.now) (omega arith)) ∙ s
 
 pub returns-then-sound : goal.returns-then-sound
 unfolding state_of
@@ -44,7 +45,7 @@ returns-then-sound c =
     let b : Box = (lent a.numbers.now a.switches.now a.hold.now a.words.now a.flags.now a.addresses.now a.sizes.now a.links.now a.marks.now a.deeps.now) in
     let s : sound b ≡ true = sym (c.sound.ensures b refl refl refl (refl, refl, refl, refl, refl, refl, refl)) ∙ c.if-sound.true in
     let x : Box = (lent c.word_step-answer.new.numbers c.word_step-answer.new.switches a.hold.now c.word_step-answer.new.words c.word_step-answer.new.flags a.addresses.now a.sizes.now a.links.now a.marks.now a.deeps.now) in
-    stretch_one x (lent c.steps-went.new.numbers c.steps-went.new.switches a.hold.now c.steps-went.new.words c.steps-went.new.flags c.steps-went.new.addresses c.steps-went.new.sizes c.steps-went.new.links c.steps-went.new.marks c.steps-went.new.deeps) c.steps-went.result.answer c.steps-went.result.steps c.steps-went.ensures ∙ ap step (word_left b s x c.word_step-answer.result (c.word_step-answer.ensures a.addresses.now a.sizes.now a.links.now a.marks.now a.deeps.now) c.if-answer-ne0.false)
+    stretch_one x (lent c.steps-went.new.numbers c.steps-went.new.switches a.hold.now c.steps-went.new.words c.steps-went.new.flags c.steps-went.new.addresses c.steps-went.new.sizes c.steps-went.new.links c.steps-went.new.marks c.steps-went.new.deeps) c.steps-went.result.answer c.steps-went.result.steps c.steps-went.ensures ∙ ap step (word_left b s x c.word_step-answer.result (c.word_step-answer.ensures a.addresses.now a.sizes.now a.links.now a.marks.now a.deeps.now) (omega arith))
 
 pub returns : goal.returns
 unfolding state_of
