@@ -3,7 +3,7 @@
 
     tests/paths.py      a second, or a minute where the crates below requests have yet to be proved
 
-It reads the code as the compiler has it (`rt mir`), so that it sees what a `match`, and a flag that a callee returns, come to. A
+It reads the code as the prover has it (`rt check --generated`), so that it sees what a `match`, and a flag that a callee returns, come to. A
 comparison is settled where those before it on its path leave only one answer; so is a flag that the path has made true or false. To
 find that out, numbers are tried: an open comparison has numbers for both of its answers. As numbers are only compared, small ones do.
 Prints each path and the place that it finds, and ends with 1 where something settled is asked.
@@ -12,6 +12,7 @@ import itertools
 import re
 import subprocess
 import sys
+import tempfile
 from pathlib import Path
 
 ROOT = Path(__file__).resolve().parent.parent
@@ -30,34 +31,59 @@ TESTS = {
 
 
 def parsed(text):
-    """Terms in brackets as nested lists."""
+    """A term in brackets as nested lists; the modules that its words stand in are left out."""
     stack = [[]]
-    for token in re.findall(r'"[^"]*"|[()]|[^\s()]+', text):
+    for token in re.findall(r"[()]|[^\s(),]+", text):
         if token == "(":
             stack.append([])
         elif token == ")":
             last = stack.pop()
             stack[-1].append(last)
         else:
-            stack[-1].append(token.strip('"'))
-    return stack[0]
+            stack[-1].append(token if token.endswith(".name") else token.removeprefix("Syntax.").removeprefix("List."))
+    return stack[0][0] if len(stack[0]) == 1 else stack[0]
 
 
 def listed(term):
-    """The elements of a list of the compiler's code."""
-    while term != "lnil":
+    """The elements of a list of the prover's code."""
+    while term != "[]":
         yield term[1]
         term = term[2]
 
 
-def functions(term, found):
-    """The code of each function, by its name."""
-    if isinstance(term, list):
-        if term[:1] == ["fn-def"]:
-            found[term[1]] = term[2][-1]
-        for part in term:
-            functions(part, found)
-    return found
+class Code:
+    """The code of each function, by its name, read when it is asked for."""
+
+    def __init__(self):
+        self.folder = tempfile.TemporaryDirectory()
+        self.read = {}
+
+    def __getitem__(self, name):
+        if name not in self.read:
+            crate, *path = name.split("::")
+            command = ["rt", "check", "--generated", self.folder.name, "--start", path[-1]]
+            done = subprocess.run(command, cwd=ROOT / "crates" / crate, stdout=subprocess.PIPE, stderr=subprocess.STDOUT, text=True)
+            file = Path(self.folder.name, f"Rattle-{crate}-proofs", *path, "Code/Mir.antt")
+            if not file.exists():
+                sys.exit(f"no code of {name}:\n{done.stdout}")
+            self.read[name] = self.named(file.read_text())
+        return self.read[name]
+
+    def named(self, text):
+        """The body, the names that it is put together from replaced by what they stand for, and a callee's symbol by its name."""
+        callees = {}
+        for module, other in re.findall(r"^use Rattle\.(\S+)\.Symbol(?: as (\S+))?$", text, re.M):
+            crate, _, *path = module.split(".")
+            callees[f"{other or 'Symbol'}.name"] = "::".join([crate, *path])
+        bodies = dict(re.findall(r"^((?:by_name-)?[st]-\d+) =\s((?:.|\n(?! *\n))*)", text, re.M))
+
+        def whole(term):
+            if isinstance(term, list):
+                return [whole(part) for part in term]
+            return whole(parsed(bodies[term])) if term in bodies else callees.get(term, term)
+
+        # with types of a name, the code is put together under `by_name`, and then spelled out
+        return next(whole(name) for name in ("by_name-t-1", "by_name-s-1", "t-1", "s-1") if name in bodies)
 
 
 def holds(test, numbers):
@@ -97,8 +123,8 @@ class Walk:
         self.settled = []
 
     def operand(self, term, values):
-        if term in ("true", "false"):
-            return term == "true"
+        if term in ("opd_true", "opd_false"):
+            return term == "opd_true"
         if term[0] == "int":
             return int(term[2])
         _, local, steps = term[1]
@@ -112,7 +138,7 @@ class Walk:
         kind = term[0]
         if kind == "aggregate":
             return [self.operand(part, values) for part in listed(term[1])]
-        if kind == "rvOpd" or kind == "op1" and term[1][0] == "cast":
+        if kind == "rv_opd" or kind == "op1" and term[1][0] == "cast":
             return self.operand(term[-1], values)
         if kind == "op2":
             name = term[1] if isinstance(term[1], str) else term[1][0]
@@ -143,9 +169,9 @@ class Walk:
                 yield "on" if way == 0 else way - 1 if isinstance(way, int) else way, then, so_far
         elif term[0] == "call":
             arguments = {str(i): self.operand(part, values) for i, part in enumerate(listed(term[2]), 1)}
-            for _, then, so_far in self.paths(self.code[term[1][1][1]], arguments, asked):
+            for _, then, so_far in self.paths(self.code[term[1]], arguments, asked):
                 yield "on", {**values, term[3][1]: then["0"]}, so_far
-        elif term[0] == "if":
+        elif term[0] == "cond":
             test = self.operand(term[1], values)
             left = answers_left(asked, test)
             if len(left) < 2:
@@ -158,8 +184,7 @@ class Walk:
 
 
 def main():
-    mir = subprocess.run(["rt", "mir", "requests"], cwd=ROOT, stdout=subprocess.PIPE, text=True, check=True).stdout
-    walk = Walk(functions(parsed(mir[mir.index("program (") :]), {}))
+    walk = Walk(Code())
     head = re.search(r"fn find_place\(([^)]*)\)", SOURCE.read_text())[1]
     names = {str(i): part.split(":")[0].strip() for i, part in enumerate(head.split(","), 1)}
     for number, (_, values, asked) in enumerate(walk.paths(walk.code[FUNCTION], names, []), 1):
