@@ -2,10 +2,11 @@
 -- lie below low, the part already moved from low on, the part not yet moved from src + index up to base, and those ahead from base
 -- to top; within a region the layout keeps tuples apart. Assumes nothing.
 use Prim.Native.Nat.{ℕ, ◌+◌, ◌≤◌, ◌<◌}
-use mathlib.Core.Bool.{cond, ◌&&◌}
+use mathlib.Core.Bool.{false, cond, ◌&&◌, and-false}
 use mathlib.Core.List.{List, [], ◌∷◌}
-use mathlib.Core.Logic.{◌⊎◌, inl, inr}
+use mathlib.Core.Logic.{◌≢◌, ◌⊎◌, inl, inr}
 use mathlib.Core.Path.{◌≡◌, refl, sym, ap, ◌∙◌, subst}
+use borrow.Author.Tests.{lt-leb, ne_eqb}
 use native.Mathlib.Omega.{arith}
 use native.Mathlib.Decide.{ℕ_discrete, dec_le, dec_lt}
 use lib.Dec.{leb, ltb, eqb}
@@ -18,6 +19,20 @@ use Rattle.history.specs.Agreement.{Member}
 use Rattle.history.proofs.Invariant.Statement.{Ghosts, Inv, word, rooms, Laid, Kept, settled, moving, unswept, surviving, Layout, Move, Stage, at_rest, finding, scanning, adding, sweeping, reading, clearing, writing, zeroing}
 use Rattle.history.proofs.Lists.Handles.{Parts, parts}
 use Rattle.history.proofs.Lists.Laid.{laid_le, laid_rooms, laid_bounds, laid_apart, rooms_one, marked_rooms_le}
+
+-- ---- the rule's own test, whether a tuple is being moved
+
+not_moved_other : (h : ℕ) (b : Box) → h ≢ b.collector.tuple → being_moved h b ≡ false
+unfolding being_moved
+not_moved_other h b n = simp (ne_eqb h b.collector.tuple n)
+
+not_moved_early : (h : ℕ) (b : Box) → b.collector.phase < 5 → being_moved h b ≡ false
+unfolding being_moved
+not_moved_early h b l = simp (lt-leb 5 b.collector.phase l, and-false)
+
+not_moved_late : (h : ℕ) (b : Box) → 7 < b.collector.phase → being_moved h b ≡ false
+unfolding being_moved
+not_moved_late h b l = simp (lt-leb b.collector.phase 7 l, and-false)
 
 -- ---- what the stage says of the numbers
 
@@ -131,6 +146,14 @@ not_moving b g s h n x = cases (motion b g s)
     cases (early l e) = omega arith
     cases (late l e) = omega arith
     cases (in_motion m l u z f) = n (subst (λ (ks : List ℕ). Member h ks) (sym m.mid_is) (inl x.0))
+
+pub not_moved : (b : Box) (g : Ghosts) → Stage b g → (h : ℕ) → ¬ Member h g.plan.mid → being_moved h b ≡ false
+not_moved b g s h n = cases (motion b g s)
+  where
+    cases : Motion b g → being_moved h b ≡ false
+    cases (early l e) = not_moved_early h b l
+    cases (late l e) = not_moved_late h b l
+    cases (in_motion m l u z f) = not_moved_other h b (λ e. n (subst (λ (ks : List ℕ). Member h ks) (sym m.mid_is) (inl e)))
 
 pub still_place : (b : Box) (g : Ghosts) → Stage b g → (h i : ℕ) → ¬ Member h g.plan.mid → place h i b ≡ at (address h b + i)
 still_place b g s h i n = place_home h i b (λ x. not_moving b g s h n x.0) (λ x. not_moving b g s h n x.0)
