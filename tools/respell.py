@@ -38,7 +38,7 @@ def imported(text):
         if path[0] == "Rattle" and len(path) > 1 and path[1] in OWN:
             continue
         for item in (m.group(2) or "").split(","):
-            out.update(item.split(" as ")[-1:] and [w for w in item.replace(" as ", " ").split()])
+            out.update(item.replace(" as ", " ").split())
     return out
 
 
@@ -82,16 +82,8 @@ def rattle(text, names, kept):
 
 def edit(text, names):
     head = re.search(r"(?m)^file: (.*)$", text)[1]
-    turn = antt if head.endswith(".antt") else rattle
-    lines = []
-    for line in text.split("\n"):
-        m = re.match(r"(old|new): (.*)$", line)
-        if m and head.endswith(".antt"):
-            line = m[1] + ": " + turned(m[2], names, ())
-        elif m:
-            line = m[1] + ": " + turn(m[2], names, ())
-        lines.append(line)
-    return "\n".join(lines)
+    turn = turned if head.endswith(".antt") else rattle
+    return re.sub(r"(?m)^(old|new): (.*)$", lambda m: f"{m[1]}: {turn(m[2], names, ())}", text)
 
 
 def page(text, names):
