@@ -56,6 +56,6 @@ module _ (ns old : List ℕ) where
     pub write_few : length new ≡ length old → count < too_many
     write_few h = put_few (length ns) count (bytes_written ns old) old new f did.put did.counted h
 
-    pub write_some : (a : ℕ) → a ≡ answer → CWrites ns old new (count * 256 + a)
+    pub write_some : (r : ℕ) → r ≡ count * 256 + answer → CWrites ns old new r
     unfolding c_write
-    write_some a e = rw f record { put = did.put; told = rw (e, did.counted, did.answered) }
+    write_some r e = rw f record { put = did.put; told = rw (e, did.counted, did.answered) }

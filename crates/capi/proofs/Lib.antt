@@ -1,3 +1,3 @@
-pub mod Whole
 pub mod Counts
 pub mod Unchanged
+pub mod Held

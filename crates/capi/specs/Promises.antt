@@ -5,6 +5,7 @@ use Rattle.rules.specs.Parts.{Box}
 use Rattle.rules.specs.Box.{reply}
 use Rattle.rules.specs.Collector.{step}
 use Rattle.rules.specs.Open.{opening}
+use Rattle.lent.specs.declared.unit.MemoryUnit.{MemoryUnit}
 use Rattle.lent.specs.Lent.{lent}
 use Rattle.capi.specs.Calls.{c_request, c_run}
 
@@ -23,6 +24,13 @@ pub record Lent : Type 0 where
 
 abbrev pub parts : List ℕ → List Bool → List ℕ → List ℕ → List Bool → List ℕ → List ℕ → List ℕ → List Bool → List Bool → Lent
 parts ns sw hd ws fs ads ss ls ms ds = record { numbers = ns; switches = sw; hold = hd; words = ws; flags = fs; addresses = ads; sizes = ss; links = ls; marks = ms; deeps = ds }
+
+abbrev pub parts_of : MemoryUnit → Lent
+parts_of u = parts u.numbers.now u.switches.now u.hold.now u.words.now u.flags.now u.addresses.now u.sizes.now u.links.now u.marks.now u.deeps.now
+
+-- the same after a call that only reads the hold's numbers: they are what u had
+abbrev pub parts_held : MemoryUnit → MemoryUnit → Lent
+parts_held u v = parts v.numbers.now v.switches.now u.hold.now v.words.now v.flags.now v.addresses.now v.sizes.now v.links.now v.marks.now v.deeps.now
 
 -- the box that the parts make
 abbrev pub box_of : Lent → Box

@@ -3,7 +3,7 @@
 ghost use Rattle.std.specs.Prelude.{◌≡◌};
 ghost use Rattle.capi.specs.Strings.{few, CReads, CWrites};
 
-use crate::{NOT_UNDERSTOOD, wide};
+use crate::NOT_UNDERSTOOD;
 
 // A lent part with 2^48 elements or more is not taken, so that what is given back has 64 bits.
 const TOO_MANY: usize = 281474976710656;
@@ -22,10 +22,10 @@ pub fn gloamish_read(bytes: &[u8], numbers: &mut [u32]) -> u64
     ensures { CReads bytes.now numbers.old numbers.new result }
 {
     if !few(bytes.len(), numbers.len()) {
-        return wide(NOT_UNDERSTOOD);
+        return u64::from(NOT_UNDERSTOOD);
     }
     let got = record::read(bytes, numbers);
-    got.count as u64 * 256 + wide(got.answer)
+    got.count as u64 * 256 + u64::from(got.answer)
 }
 
 // Writes the same list of numbers as bytes, as `record::write` does, into the front of the lent bytes, and gives back how many bytes
@@ -35,8 +35,10 @@ pub fn gloamish_write(numbers: &[u32], bytes: &mut [u8]) -> u64
     ensures { CWrites numbers.now bytes.old bytes.new result }
 {
     if !few(numbers.len(), bytes.len()) {
-        return wide(NOT_UNDERSTOOD);
+        return u64::from(NOT_UNDERSTOOD);
     }
-    let wrote = record::write(numbers, bytes);
-    wrote.count as u64 * 256 + wide(wrote.answer)
+    match record::write(numbers, bytes) {
+        Ok(count) => count as u64 * 256,
+        Err(fault) => u64::from(fault.number()),
+    }
 }

@@ -1,9 +1,12 @@
-// The C interface as a static library, for C and Rust to link. Each export is the call of crate capi that has its name, with the same
-// promise. A C caller sees to what capi says of the lent parts.
+// The C interface as a static library, for C and Rust to link. Each export makes the memory unit of what it is lent, as a C caller lends it
+// part by part, and calls the function of crate capi that has its name, with the same promise. A C caller sees to what capi says of the lent
+// parts.
 #![tactic(auto)]
 
 ghost use Rattle.capi.specs.Promises.{parts, Opens, Asks, Steps, Runs};
 ghost use Rattle.capi.specs.Strings.{CReads, CWrites};
+
+use lent::MemoryUnit;
 
 // Opens a box of m words and h entries, as `memory::open` does.
 #[unsafe(no_mangle)]
@@ -23,9 +26,19 @@ pub extern "C" fn gloamish_open(
 ) -> u32
     ensures { Opens m h (parts numbers.old switches.old hold.old words.old flags.old addresses.old sizes.old links.old marks.old deeps.old) (parts numbers.new switches.new hold.new words.new flags.new addresses.new sizes.new links.new marks.new deeps.new) result }
 {
-    capi::gloamish_open(
-        m, h, numbers, switches, hold, words, flags, addresses, sizes, links, marks, deeps,
-    )
+    let mut unit = MemoryUnit {
+        numbers,
+        switches,
+        hold,
+        words,
+        flags,
+        addresses,
+        sizes,
+        links,
+        marks,
+        deeps,
+    };
+    capi::gloamish_open(&mut unit, m, h)
 }
 
 // One request: its kind's number and its fields in document 01's order. Answers as `memory::request` does; an unknown kind or a
@@ -49,12 +62,22 @@ pub extern "C" fn gloamish_request(
 ) -> u32
     ensures { Asks kind a b c (parts numbers.old switches.old hold.old words.old flags.old addresses.old sizes.old links.old marks.old deeps.old) (parts numbers.new switches.new hold.new words.new flags.new addresses.new sizes.new links.new marks.new deeps.new) result }
 {
-    capi::gloamish_request(
-        kind, a, b, c, numbers, switches, hold, words, flags, addresses, sizes, links, marks, deeps,
-    )
+    let mut unit = MemoryUnit {
+        numbers,
+        switches,
+        hold,
+        words,
+        flags,
+        addresses,
+        sizes,
+        links,
+        marks,
+        deeps,
+    };
+    capi::gloamish_request(&mut unit, kind, a, b, c)
 }
 
-// One step of the collector, as `memory::step` does it.
+// One step of the collector, as `memory::step` does it. It only reads the hold's numbers, which no step changes.
 #[unsafe(no_mangle)]
 pub extern "C" fn gloamish_step(
     numbers: &mut [u32; 22],
@@ -70,12 +93,23 @@ pub extern "C" fn gloamish_step(
 ) -> u32
     ensures { Steps (parts numbers.old switches.old hold.now words.old flags.old addresses.old sizes.old links.old marks.old deeps.old) (parts numbers.new switches.new hold.now words.new flags.new addresses.new sizes.new links.new marks.new deeps.new) result }
 {
-    capi::gloamish_step(
-        numbers, switches, hold, words, flags, addresses, sizes, links, marks, deeps,
-    )
+    let mut held = *hold;
+    let mut unit = MemoryUnit {
+        numbers,
+        switches,
+        hold: &mut held,
+        words,
+        flags,
+        addresses,
+        sizes,
+        links,
+        marks,
+        deeps,
+    };
+    capi::gloamish_step(&mut unit)
 }
 
-// A run with a budget of steps, as `memory::run` does it. Gives steps * 256 + answer.
+// A run with a budget of steps, as `memory::run` does it. Gives steps * 256 + answer. It only reads the hold's numbers, which no run changes.
 #[unsafe(no_mangle)]
 pub extern "C" fn gloamish_run(
     budget: u32,
@@ -92,9 +126,20 @@ pub extern "C" fn gloamish_run(
 ) -> u64
     ensures { Runs budget (parts numbers.old switches.old hold.now words.old flags.old addresses.old sizes.old links.old marks.old deeps.old) (parts numbers.new switches.new hold.now words.new flags.new addresses.new sizes.new links.new marks.new deeps.new) result }
 {
-    capi::gloamish_run(
-        budget, numbers, switches, hold, words, flags, addresses, sizes, links, marks, deeps,
-    )
+    let mut held = *hold;
+    let mut unit = MemoryUnit {
+        numbers,
+        switches,
+        hold: &mut held,
+        words,
+        flags,
+        addresses,
+        sizes,
+        links,
+        marks,
+        deeps,
+    };
+    capi::gloamish_run(&mut unit, budget)
 }
 
 // Reads a string of bytes, as `record::read` does: edition, M, H and each whole record's kind and fields go into the front of the lent

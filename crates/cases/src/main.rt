@@ -13,79 +13,121 @@ use std::io;
 const CYCLE: u32 = 130;
 
 // A case's name, and a box for it.
-fn case(rt: &impl Print, name: &[u8]) -> io::Result<Bench> {
-    rt.write_all(name)?;
-    Bench::opened().answered(rt)
+fn case(rt: &impl Print, name: &str) -> io::Result<Bench> {
+    let bench = Bench::opened();
+    print!(rt; "{name}")?;
+    bench.answered(rt)?;
+    Ok(bench)
 }
 
 // The end of a case's line.
-fn end(rt: &impl Print, b: Bench) -> io::Result<()> {
-    print!(rt; "\n")
+fn end(rt: &impl Print) -> io::Result<()> {
+    println!(rt;)
 }
 
 // The calls of P1.
-fn first(rt: &impl Print, b: Bench) -> io::Result<Bench> {
+fn first(rt: &impl Print, b: &mut Bench) -> io::Result<()> {
     b.ask(rt, Request::Getm { r: 0, n: 2, tag: 7 })
 }
 
 // The calls of P2.
-fn second(rt: &impl Print, b: Bench) -> io::Result<Bench> {
-    first(rt, b)?.ask(rt, Request::Getm { r: 1, n: 1, tag: 0 })
+fn second(rt: &impl Print, b: &mut Bench) -> io::Result<()> {
+    first(rt, b)?;
+    b.ask(rt, Request::Getm { r: 1, n: 1, tag: 0 })
 }
 
 // The calls of P3 up to its cycle.
-fn linked(rt: &impl Print, b: Bench) -> io::Result<Bench> {
-    let stored = second(rt, b)?.ask(rt, Request::Store { r: 1, s: 0, k: 0 })?;
-    stored.ask(rt, Request::Setd { r: 1, v: 0 })
+fn linked(rt: &impl Print, b: &mut Bench) -> io::Result<()> {
+    second(rt, b)?;
+    b.ask(rt, Request::Store { r: 1, s: 0, k: 0 })?;
+    b.ask(rt, Request::Setd { r: 1, v: 0 })
 }
 
 // The calls of P3.
-fn third(rt: &impl Print, b: Bench) -> io::Result<Bench> {
-    linked(rt, b)?.run(rt, CYCLE)
+fn third(rt: &impl Print, b: &mut Bench) -> io::Result<()> {
+    linked(rt, b)?;
+    b.run(rt, CYCLE)
 }
 
 // The calls of P5 up to its cycle.
-fn fifth(rt: &impl Print, b: Bench) -> io::Result<Bench> {
-    let set = second(rt, b)?.ask(rt, Request::Setd { r: 2, v: 0xABCD })?;
-    let stored = set.ask(rt, Request::Store { r: 2, s: 1, k: 0 })?;
-    stored.ask(rt, Request::Setd { r: 0, v: 0 })
+fn fifth(rt: &impl Print, b: &mut Bench) -> io::Result<()> {
+    second(rt, b)?;
+    b.ask(rt, Request::Setd { r: 2, v: 0xABCD })?;
+    b.ask(rt, Request::Store { r: 2, s: 1, k: 0 })?;
+    b.ask(rt, Request::Setd { r: 0, v: 0 })
 }
 
 // A new tuple, and a second one.
 fn tuples(rt: &impl Print) -> io::Result<()> {
-    let one = first(rt, case(rt, b"P1")?)?;
-    end(rt, one.handle(rt, 0)?.word(rt, 0)?.top(rt)?)?;
-    let two = second(rt, case(rt, b"P2")?)?;
-    end(rt, two.handle(rt, 1)?.top(rt)?)
+    let mut b = case(rt, "P1")?;
+    first(rt, &mut b)?;
+    b.handle(rt, 0)?;
+    b.word(rt, 0)?;
+    b.top(rt)?;
+    end(rt)?;
+    let mut b = case(rt, "P2")?;
+    second(rt, &mut b)?;
+    b.handle(rt, 1)?;
+    b.top(rt)?;
+    end(rt)
 }
 
 // A cycle in place, and one that frees all.
 fn cycles(rt: &impl Print) -> io::Result<()> {
-    let stays = third(rt, case(rt, b"P3")?)?;
-    end(rt, stays.address(rt, 1)?.address(rt, 2)?.top(rt)?)?;
-    let dropped = third(rt, case(rt, b"P4")?)?.ask(rt, Request::Setd { r: 0, v: 0 })?;
-    end(rt, dropped.run(rt, CYCLE)?.top(rt)?.free(rt)?)
+    let mut b = case(rt, "P3")?;
+    third(rt, &mut b)?;
+    b.address(rt, 1)?;
+    b.address(rt, 2)?;
+    b.top(rt)?;
+    end(rt)?;
+    let mut b = case(rt, "P4")?;
+    third(rt, &mut b)?;
+    b.ask(rt, Request::Setd { r: 0, v: 0 })?;
+    b.run(rt, CYCLE)?;
+    b.top(rt)?;
+    b.free(rt)?;
+    end(rt)
 }
 
-// A cycle that moves a tuple, a word read and written while it is moved, and a cycle on an empty heap.
-fn moves(rt: &impl Print) -> io::Result<()> {
-    let moved = fifth(rt, case(rt, b"P5")?)?.run(rt, CYCLE)?.top(rt)?;
-    end(rt, moved.word(rt, 0)?.word(rt, 1)?.zeros(rt, 2)?)?;
-    let loaded = fifth(rt, case(rt, b"P6")?)?
-        .run(rt, 12)?
-        .ask(rt, Request::Load { r: 3, s: 1, k: 0 })?;
-    end(rt, loaded.register(rt, 3)?)?;
-    let data = fifth(rt, case(rt, b"P7")?)?
-        .run(rt, 12)?
-        .ask(rt, Request::Setd { r: 3, v: 5 })?;
-    let stored = data.ask(rt, Request::Store { r: 3, s: 1, k: 0 })?;
-    end(rt, stored.run(rt, CYCLE)?.word(rt, 1)?)?;
-    end(rt, case(rt, b"P8")?.run(rt, CYCLE)?.top(rt)?)
+// A cycle that moves a tuple.
+fn moved(rt: &impl Print) -> io::Result<()> {
+    let mut b = case(rt, "P5")?;
+    fifth(rt, &mut b)?;
+    b.run(rt, CYCLE)?;
+    b.top(rt)?;
+    b.word(rt, 0)?;
+    b.word(rt, 1)?;
+    b.zeros(rt, 2)?;
+    end(rt)
 }
 
-// Room for a tuple: just enough, too little, and more than there is memory.
+// A word read and written while it is moved, and a cycle on an empty heap.
+fn moving(rt: &impl Print) -> io::Result<()> {
+    let mut b = case(rt, "P6")?;
+    fifth(rt, &mut b)?;
+    b.run(rt, 12)?;
+    b.ask(rt, Request::Load { r: 3, s: 1, k: 0 })?;
+    b.register(rt, 3)?;
+    end(rt)?;
+    let mut b = case(rt, "P7")?;
+    fifth(rt, &mut b)?;
+    b.run(rt, 12)?;
+    b.ask(rt, Request::Setd { r: 3, v: 5 })?;
+    b.ask(rt, Request::Store { r: 3, s: 1, k: 0 })?;
+    b.run(rt, CYCLE)?;
+    b.word(rt, 1)?;
+    end(rt)?;
+    let mut b = case(rt, "P8")?;
+    b.run(rt, CYCLE)?;
+    b.top(rt)?;
+    end(rt)
+}
+
+// A tuple of n words after P2: just enough room, too little, and more than there is memory.
 fn room(rt: &impl Print) -> io::Result<()> {
-    let fits = second(rt, case(rt, b"P9")?)?.ask(
+    let mut b = case(rt, "P9")?;
+    second(rt, &mut b)?;
+    b.ask(
         rt,
         Request::Getm {
             r: 2,
@@ -93,8 +135,11 @@ fn room(rt: &impl Print) -> io::Result<()> {
             tag: 0,
         },
     )?;
-    end(rt, fits.top(rt)?)?;
-    let held = second(rt, case(rt, b"P10")?)?.ask(
+    b.top(rt)?;
+    end(rt)?;
+    let mut b = case(rt, "P10")?;
+    second(rt, &mut b)?;
+    b.ask(
         rt,
         Request::Getm {
             r: 2,
@@ -102,8 +147,13 @@ fn room(rt: &impl Print) -> io::Result<()> {
             tag: 0,
         },
     )?;
-    end(rt, held.later(rt, CYCLE)?.top(rt)?.held(rt)?)?;
-    let large = second(rt, case(rt, b"P11")?)?.ask(
+    b.later(rt, CYCLE)?;
+    b.top(rt)?;
+    b.held(rt)?;
+    end(rt)?;
+    let mut b = case(rt, "P11")?;
+    second(rt, &mut b)?;
+    b.ask(
         rt,
         Request::Getm {
             r: 2,
@@ -111,41 +161,45 @@ fn room(rt: &impl Print) -> io::Result<()> {
             tag: 0,
         },
     )?;
-    end(rt, large.top(rt)?)
+    b.top(rt)?;
+    end(rt)
 }
 
 // The last word of a tuple and the word behind it; the largest offset.
 fn limits(rt: &impl Print) -> io::Result<()> {
-    let data = first(rt, case(rt, b"P12")?)?.ask(rt, Request::Setd { r: 1, v: 0xABCD })?;
-    let loaded = data.ask(rt, Request::Load { r: 1, s: 0, k: 1 })?;
-    end(
-        rt,
-        loaded
-            .ask(rt, Request::Load { r: 1, s: 0, k: 2 })?
-            .register(rt, 1)?,
-    )?;
-    let nil = case(rt, b"ADVANCE")?.ask(rt, Request::Nil { r: 0 })?;
-    let far = nil.ask(rt, Request::Advance { r: 0, n: 65534 })?;
-    let over = far.ask(rt, Request::Advance { r: 0, n: 2 })?;
-    end(
-        rt,
-        over.ask(rt, Request::Advance { r: 0, n: 1 })?
-            .register(rt, 0)?,
-    )
+    let mut b = case(rt, "P12")?;
+    first(rt, &mut b)?;
+    b.ask(rt, Request::Setd { r: 1, v: 0xABCD })?;
+    b.ask(rt, Request::Load { r: 1, s: 0, k: 1 })?;
+    b.ask(rt, Request::Load { r: 1, s: 0, k: 2 })?;
+    b.register(rt, 1)?;
+    end(rt)?;
+    let mut b = case(rt, "ADVANCE")?;
+    b.ask(rt, Request::Nil { r: 0 })?;
+    b.ask(rt, Request::Advance { r: 0, n: 65534 })?;
+    b.ask(rt, Request::Advance { r: 0, n: 2 })?;
+    b.ask(rt, Request::Advance { r: 0, n: 1 })?;
+    b.register(rt, 0)?;
+    end(rt)
 }
 
-// P3's cycle with a budget: one step too few, just enough, and none.
-fn budgets(rt: &impl Print) -> io::Result<()> {
-    end(rt, linked(rt, case(rt, b"budget 9")?)?.budget(rt, 9)?)?;
-    end(rt, linked(rt, case(rt, b"budget 10")?)?.budget(rt, 10)?)?;
-    end(rt, linked(rt, case(rt, b"budget 0")?)?.budget(rt, 0)?)
+// P3's cycle with a budget.
+fn with_budget(rt: &impl Print, name: &str, most: u32) -> io::Result<()> {
+    let mut b = case(rt, name)?;
+    linked(rt, &mut b)?;
+    b.budget(rt, most)?;
+    end(rt)
 }
 
 fn main(rt: HostRuntime) -> io::Result<()> {
     tuples(&rt)?;
     cycles(&rt)?;
-    moves(&rt)?;
+    moved(&rt)?;
+    moving(&rt)?;
     room(&rt)?;
     limits(&rt)?;
-    budgets(&rt)
+    // One step too few, just enough, and none.
+    with_budget(&rt, "budget 9", 9)?;
+    with_budget(&rt, "budget 10", 10)?;
+    with_budget(&rt, "budget 0", 0)
 }

@@ -1,7 +1,6 @@
 -- Bounds of indices, sums and tests, over plain variables. Assumes nothing.
 use Prim.Native.Nat.{ℕ, ◌+◌, ◌*◌, ◌^◌, ◌<◌, ◌≤◌}
-use mathlib.Core.Bool.{Bool}
-use mathlib.Core.Path.{◌≡◌, sym, ◌∙◌}
+use mathlib.Core.Path.{◌≡◌}
 use native.Mathlib.Omega.{arith}
 
 -- an index below the number that is the length
@@ -28,7 +27,3 @@ sum_fits l s m h k = omega arith
 
 pub total_fits : (l s m : ℕ) → l + s + 1 ≤ m → m < 65536 → l + s + 1 < 2 ^ 32
 total_fits l s m h k = omega arith
-
--- a test as it was made, and what came out
-pub tested : (x y t : Bool) → x ≡ y → x ≡ t → y ≡ t
-tested x y t e f = sym e ∙ f

@@ -2,6 +2,7 @@
 -- nothing.
 use Prim.Native.Nat.{ℕ}
 use mathlib.Core.Bool.{Bool, true, false, cond}
+use Rattle.std.specs.Prelude.{Option, None, Some}
 use mathlib.Core.Path.{◌≡◌, refl}
 use borrow.Author.Tests.{eq-eqb, ne_eqb}
 use Rattle.rules.specs.Parts.{Box, with_dest, with_phase, with_src, with_tuple}
@@ -33,18 +34,19 @@ module _ (b : Box) where
   refused_root h true s = simp s
   refused_root h false s = refl
 
-  module _ (there : Bool) (h : ℕ) where
-    pub root_none : (x : Reply) → there ≡ false → x ≡ end_marking b → x ≡ mark_root (found_as there h b) b
-    unfolding found_as mark_root
-    root_none x t q = simp (t, q)
+  pub root_none : (root : Option ℕ) (x : Reply) → ((h : ℕ) → root ≡ Some h → ⊥) → x ≡ end_marking b → x ≡ mark_root (found_as root b) b
+  unfolding found_as mark_root
+  root_none None x n q = q
+  root_none (Some h) x n q = absurd (n h refl)
 
-    pub root_shaded : (a : Box) → there ≡ true → can_shade h b ≡ true → a ≡ shade h b → reply a 30 ≡ mark_root (found_as there h b) b
+  module _ (root : Option ℕ) (h : ℕ) (t : root ≡ Some h) where
+    pub root_shaded : (a : Box) → can_shade h b ≡ true → a ≡ shade h b → reply a 30 ≡ mark_root (found_as root b) b
     unfolding found_as mark_root
-    root_shaded a t s q = simp (t, shadable_entry h b s, s, q)
+    root_shaded a s q = simp (t, shadable_entry h b s, s, q)
 
-    pub root_refused : there ≡ true → can_shade h b ≡ false → reply b 9 ≡ mark_root (found_as there h b) b
+    pub root_refused : can_shade h b ≡ false → reply b 9 ≡ mark_root (found_as root b) b
     unfolding found_as
-    root_refused t s = simp t (refused_root h (is_entry h b) s)
+    root_refused s = simp t (refused_root h (is_entry h b) s)
 
   -- ---- the next list, or a root
   pub next_root : (f : Found) (x : Reply) → b.collector.next ≡ 0 → f ≡ look_from 8 b → x ≡ mark_root f b → x ≡ mark_next b

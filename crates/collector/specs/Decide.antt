@@ -1,6 +1,6 @@
 -- What a step decides before it writes anything. Each of these is a part of a rule of crate rules, said by itself;
 -- that it decides that rule is proved with the code.
-use Rattle.std.specs.Prelude.{ℕ, ◌+◌, ◌<◌, ◌≤◌, Bool, not, cond, ◌&&◌, leb, ltb, eqb, ◌≡◌}
+use Rattle.std.specs.Prelude.{ℕ, ◌+◌, ◌<◌, ◌≤◌, Bool, not, cond, Option, None, Some, ◌&&◌, leb, ltb, eqb, ◌≡◌}
 use Rattle.rules.specs.Parts.{Box, with_top}
 use Rattle.collector.specs.declared.state.State.{State}
 use Rattle.rules.specs.Box.{Reply, reply, is_entry}
@@ -28,5 +28,6 @@ can_leave b =
     (ltb (after b) b.m)
 
 -- what a look at the registers has found: the handle of the first that is not passed over, or nothing
-unfoldable pub found_as : Bool → ℕ → Box → Found
-found_as there h b = cond there (cond (is_entry h b) (unmarked h) damaged) nothing
+unfoldable pub found_as : Option ℕ → Box → Found
+found_as None b = nothing
+found_as (Some h) b = cond (is_entry h b) (unmarked h) damaged

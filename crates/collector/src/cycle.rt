@@ -3,15 +3,16 @@ ghost use Rattle.std.specs.Prelude.{Bool, true, false, List, [], ◌≡◌, ℕ}
 ghost use Rattle.rules.specs.Parts.{Registers, Box};
 ghost use Rattle.rules.specs.Box.{reply};
 ghost use Rattle.collector.specs.Boxed.{blank, boxed};
+ghost use Rattle.collector.specs.Answer.{number_of};
 ghost use Rattle.rules.specs.Collector.{rest, try_held, end_cycle};
 ghost use Rattle.collector.specs.Decide.{end_refused, with_grant, Grants};
 
-use crate::state::{Answered, State};
+use crate::state::{Answer, Answered, State};
 
 impl State {
     // Phase 0, Rest: live and both lists become empty, the hold notes that a cycle begins under it, and marking starts.
     pub fn rest(mut self) -> Answered
-        ensures { (q : Registers) (ws : List ℕ) (fs : List Bool) (ads ss ls : List ℕ) (ms ds : List Bool) → reply (boxed q ws fs ads ss ls ms ds result.state) result.answer ≡ rest (boxed q ws fs ads ss ls ms ds self) }
+        ensures { (q : Registers) (ws : List ℕ) (fs : List Bool) (ads ss ls : List ℕ) (ms ds : List Bool) → reply (boxed q ws fs ads ss ls ms ds result.state) (number_of result.answer) ≡ rest (boxed q ws fs ads ss ls ms ds self) }
     {
         self.live = 0;
         self.current = 0;
@@ -21,12 +22,12 @@ impl State {
             self.begun = true;
             return Answered {
                 state: self,
-                answer: 30,
+                answer: Answer::Going,
             };
         }
         Answered {
             state: self,
-            answer: 30,
+            answer: Answer::Going,
         }
     }
 
@@ -56,8 +57,8 @@ impl State {
     // without room it answers 8 and the hold is dropped if the cycle began while it was held, and otherwise it stays, 33.
     fn try_held(mut self) -> Answered
         requires { (self.held ≡ true) × (self.phase ≡ 0) × (end_refused (boxed blank [] [] [] [] [] [] [] self) ≡ false) }
-        ensures answer_value { (q : Registers) (found : Box) (ws : List ℕ) (fs : List Bool) (ads ss ls : List ℕ) (ms ds : List Bool) → with_grant (reply (boxed q ws fs ads ss ls ms ds result.state) result.answer) ≡ try_held found (boxed q ws fs ads ss ls ms ds self) }
-        ensures grants { Grants self.m self.h result.state result.answer }
+        ensures answer_value { (q : Registers) (found : Box) (ws : List ℕ) (fs : List Bool) (ads ss ls : List ℕ) (ms ds : List Bool) → with_grant (reply (boxed q ws fs ads ss ls ms ds result.state) (number_of result.answer)) ≡ try_held found (boxed q ws fs ads ss ls ms ds self) }
+        ensures grants { Grants self.m self.h result.state (number_of result.answer) }
     {
         let n = self.hold_size;
         if self.no_room(n) {
@@ -65,17 +66,17 @@ impl State {
                 self.held = false;
                 return Answered {
                     state: self,
-                    answer: 8,
+                    answer: Answer::Dropped,
                 };
             }
             return Answered {
                 state: self,
-                answer: 33,
+                answer: Answer::StillHeld,
             };
         }
         Answered {
             state: self,
-            answer: 32,
+            answer: Answer::Granted,
         }
     }
 
@@ -83,8 +84,8 @@ impl State {
     // gives.
     pub fn end_cycle(mut self) -> Answered
         requires { end_refused (boxed blank [] [] [] [] [] [] [] self) ≡ false }
-        ensures answer_value { (q : Registers) (found : Box) (ws : List ℕ) (fs : List Bool) (ads ss ls : List ℕ) (ms ds : List Bool) → with_grant (reply (boxed q ws fs ads ss ls ms ds result.state) result.answer) ≡ end_cycle found (boxed q ws fs ads ss ls ms ds self) }
-        ensures grants { Grants self.m self.h result.state result.answer }
+        ensures answer_value { (q : Registers) (found : Box) (ws : List ℕ) (fs : List Bool) (ads ss ls : List ℕ) (ms ds : List Bool) → with_grant (reply (boxed q ws fs ads ss ls ms ds result.state) (number_of result.answer)) ≡ end_cycle found (boxed q ws fs ads ss ls ms ds self) }
+        ensures grants { Grants self.m self.h result.state (number_of result.answer) }
     {
         self.live = 0;
         self.phase = 0;
@@ -93,7 +94,7 @@ impl State {
         }
         Answered {
             state: self,
-            answer: 31,
+            answer: Answer::Ended,
         }
     }
 }

@@ -4,10 +4,11 @@ ghost use Rattle.std.specs.Prelude.{Bool, List, ◌≡◌, ℕ, ◌+◌, ◌<◌
 ghost use Rattle.rules.specs.Box.{reply};
 ghost use Rattle.rules.specs.Parts.{Registers};
 ghost use Rattle.collector.specs.Boxed.{boxed};
+ghost use Rattle.collector.specs.Answer.{number_of};
 ghost use Rattle.rules.specs.Collector.{scan, scan_next, scan_word, scan_current, mark_scan, mark_add};
 
 use crate::place::reaches;
-use crate::state::{Answered, State};
+use crate::state::{Answer, Answered, State};
 use crate::word::Word;
 
 impl State {
@@ -28,7 +29,7 @@ impl State {
     // Takes the head of the next list to scan. Answers 30, or 9 where that head is no entry.
     pub fn scan_next(mut self, addresses: &[u32], sizes: &[u32], links: &[u32]) -> Answered
         requires { (length addresses.now ≡ self.h) × (length sizes.now ≡ self.h) × (length links.now ≡ self.h) }
-        ensures { (q : Registers) (ws : List ℕ) (fs ms ds : List Bool) → reply (boxed q ws fs addresses.now sizes.now links.now ms ds result.state) result.answer ≡ scan_next (boxed q ws fs addresses.now sizes.now links.now ms ds self) }
+        ensures { (q : Registers) (ws : List ℕ) (fs ms ds : List Bool) → reply (boxed q ws fs addresses.now sizes.now links.now ms ds result.state) (number_of result.answer) ≡ scan_next (boxed q ws fs addresses.now sizes.now links.now ms ds self) }
     {
         let h = self.next;
         if self.is_entry(h) {
@@ -36,12 +37,12 @@ impl State {
             self = self.scan(h, addresses, sizes, links);
             return Answered {
                 state: self,
-                answer: 30,
+                answer: Answer::Going,
             };
         }
         Answered {
             state: self,
-            answer: 9,
+            answer: Answer::Refused,
         }
     }
 
@@ -49,26 +50,26 @@ impl State {
     // list is looked at. Answers 30, or 9 where that head is no entry.
     fn scan_current(mut self, addresses: &[u32], sizes: &[u32], links: &[u32]) -> Answered
         requires { (length addresses.now ≡ self.h) × (length sizes.now ≡ self.h) × (length links.now ≡ self.h) }
-        ensures { (q : Registers) (ws : List ℕ) (fs ms ds : List Bool) → reply (boxed q ws fs addresses.now sizes.now links.now ms ds result.state) result.answer ≡ scan_current (boxed q ws fs addresses.now sizes.now links.now ms ds self) }
+        ensures { (q : Registers) (ws : List ℕ) (fs ms ds : List Bool) → reply (boxed q ws fs addresses.now sizes.now links.now ms ds result.state) (number_of result.answer) ≡ scan_current (boxed q ws fs addresses.now sizes.now links.now ms ds self) }
     {
         let h = self.current;
         if h == 0 {
             self.phase = 1;
             return Answered {
                 state: self,
-                answer: 30,
+                answer: Answer::Going,
             };
         }
         if self.is_entry(h) {
             self = self.scan(h, addresses, sizes, links);
             return Answered {
                 state: self,
-                answer: 30,
+                answer: Answer::Going,
             };
         }
         Answered {
             state: self,
-            answer: 9,
+            answer: Answer::Refused,
         }
     }
 
@@ -104,7 +105,7 @@ impl State {
         links: &[u32],
     ) -> Answered
         requires { (length words.now ≡ self.m) × (length flags.now ≡ self.m) × (length addresses.now ≡ self.h) × (length sizes.now ≡ self.h) × (length links.now ≡ self.h) × (self.m < 65536) }
-        ensures { (q : Registers) (ms ds : List Bool) → reply (boxed q words.now flags.now addresses.now sizes.now links.now ms ds result.state) result.answer ≡ mark_scan (boxed q words.now flags.now addresses.now sizes.now links.now ms ds self) }
+        ensures { (q : Registers) (ms ds : List Bool) → reply (boxed q words.now flags.now addresses.now sizes.now links.now ms ds result.state) (number_of result.answer) ≡ mark_scan (boxed q words.now flags.now addresses.now sizes.now links.now ms ds self) }
     {
         let src = self.src;
         let index = self.index;
@@ -115,12 +116,12 @@ impl State {
             self = self.scan_word(words, flags);
             return Answered {
                 state: self,
-                answer: 30,
+                answer: Answer::Going,
             };
         }
         Answered {
             state: self,
-            answer: 9,
+            answer: Answer::Refused,
         }
     }
 
@@ -133,7 +134,7 @@ impl State {
         deeps: &[bool],
     ) -> Answered
         requires { (length sizes.now ≡ self.h) × (length links.old ≡ self.h) × (length marks.old ≡ self.h) × (length deeps.now ≡ self.h) × (self.m < 65536) }
-        ensures { (q : Registers) (ws : List ℕ) (fs : List Bool) (ads : List ℕ) → reply (boxed q ws fs ads sizes.now links.new marks.new deeps.now result.state) result.answer ≡ mark_add (boxed q ws fs ads sizes.now links.old marks.old deeps.now self) }
+        ensures { (q : Registers) (ws : List ℕ) (fs : List Bool) (ads : List ℕ) → reply (boxed q ws fs ads sizes.now links.new marks.new deeps.now result.state) (number_of result.answer) ≡ mark_add (boxed q ws fs ads sizes.now links.old marks.old deeps.now self) }
     {
         let h = self.tuple;
         if self.can_shade(h, sizes, marks) {
@@ -141,12 +142,12 @@ impl State {
             self.phase = 2;
             return Answered {
                 state: self,
-                answer: 30,
+                answer: Answer::Going,
             };
         }
         Answered {
             state: self,
-            answer: 9,
+            answer: Answer::Refused,
         }
     }
 }

@@ -3,11 +3,12 @@ ghost use Rattle.std.specs.Prelude.{Bool, true, List, [], ◌≡◌, ℕ, ◌+�
 ghost use Rattle.rules.specs.Parts.{Registers, Box};
 ghost use Rattle.rules.specs.Box.{reply};
 ghost use Rattle.collector.specs.Boxed.{blank, boxed};
+ghost use Rattle.collector.specs.Answer.{number_of};
 ghost use Rattle.rules.specs.Collector.{leave_tuple, finish_move, copy_word, sweep_read, sweep_clear, sweep_write, zero_word, sweep_zero};
 ghost use Rattle.collector.specs.Decide.{can_leave, with_grant, Grants};
 
 use crate::place::reaches;
-use crate::state::{Answered, State};
+use crate::state::{Answer, Answered, State};
 
 impl State {
     // Whether the sweep can leave its tuple: what is behind it is in memory, or it is the last and the end of the cycle is not
@@ -35,8 +36,8 @@ impl State {
     // end of the cycle gives.
     fn leave_tuple(mut self, words: &[u32], flags: &[bool]) -> Answered
         requires { (length words.now ≡ self.m) × (length flags.now ≡ self.m) × (self.m < 65536) × (can_leave (boxed blank [] [] [] [] [] [] [] self) ≡ true) }
-        ensures answer_value { (q : Registers) (found : Box) (ads ss ls : List ℕ) (ms ds : List Bool) → with_grant (reply (boxed q words.now flags.now ads ss ls ms ds result.state) result.answer) ≡ leave_tuple found (boxed q words.now flags.now ads ss ls ms ds self) }
-        ensures grants { Grants self.m self.h result.state result.answer }
+        ensures answer_value { (q : Registers) (found : Box) (ads ss ls : List ℕ) (ms ds : List Bool) → with_grant (reply (boxed q words.now flags.now ads ss ls ms ds result.state) (number_of result.answer)) ≡ leave_tuple found (boxed q words.now flags.now ads ss ls ms ds self) }
+        ensures grants { Grants self.m self.h result.state (number_of result.answer) }
     {
         let after = self.src + self.size + 1;
         if after == self.top {
@@ -46,7 +47,7 @@ impl State {
         self = self.go_on(after, words, flags);
         Answered {
             state: self,
-            answer: 30,
+            answer: Answer::Going,
         }
     }
 
@@ -54,8 +55,8 @@ impl State {
     // Answers 30, what the end of the cycle gives, or 9.
     fn finish_move(self, words: &[u32], flags: &[bool], addresses: &mut [u32]) -> Answered
         requires { (length words.now ≡ self.m) × (length flags.now ≡ self.m) × (length addresses.old ≡ self.h) × (self.m < 65536) }
-        ensures answer_after { (q : Registers) (ss ls : List ℕ) (ms ds : List Bool) → with_grant (reply (boxed q words.now flags.now addresses.new ss ls ms ds result.state) result.answer) ≡ finish_move (boxed q words.now flags.now addresses.old ss ls ms ds self) }
-        ensures grants { Grants self.m self.h result.state result.answer }
+        ensures answer_after { (q : Registers) (ss ls : List ℕ) (ms ds : List Bool) → with_grant (reply (boxed q words.now flags.now addresses.new ss ls ms ds result.state) (number_of result.answer)) ≡ finish_move (boxed q words.now flags.now addresses.old ss ls ms ds self) }
+        ensures grants { Grants self.m self.h result.state (number_of result.answer) }
     {
         let h = self.tuple;
         let dest = self.dest;
@@ -73,7 +74,7 @@ impl State {
         }
         Answered {
             state: self,
-            answer: 9,
+            answer: Answer::Refused,
         }
     }
 
@@ -97,8 +98,8 @@ impl State {
     // 30, what the end of the cycle gives, or 9.
     pub fn sweep_read(mut self, words: &[u32], flags: &[bool], addresses: &mut [u32]) -> Answered
         requires { (length words.now ≡ self.m) × (length flags.now ≡ self.m) × (length addresses.old ≡ self.h) × (self.m < 65536) }
-        ensures answer_after { (q : Registers) (ss ls : List ℕ) (ms ds : List Bool) → with_grant (reply (boxed q words.now flags.now addresses.new ss ls ms ds result.state) result.answer) ≡ sweep_read (boxed q words.now flags.now addresses.old ss ls ms ds self) }
-        ensures grants { Grants self.m self.h result.state result.answer }
+        ensures answer_after { (q : Registers) (ss ls : List ℕ) (ms ds : List Bool) → with_grant (reply (boxed q words.now flags.now addresses.new ss ls ms ds result.state) (number_of result.answer)) ≡ sweep_read (boxed q words.now flags.now addresses.old ss ls ms ds self) }
+        ensures grants { Grants self.m self.h result.state (number_of result.answer) }
     {
         let src = self.src;
         let index = self.index;
@@ -109,19 +110,19 @@ impl State {
             self = self.copy_word(src + index, words, flags);
             return Answered {
                 state: self,
-                answer: 30,
+                answer: Answer::Going,
             };
         }
         Answered {
             state: self,
-            answer: 9,
+            answer: Answer::Refused,
         }
     }
 
     // Phase 6, Sweep clear: the word just copied becomes data 0 where it was. Answers 30, or 9 where it is not in memory.
     pub fn sweep_clear(mut self, words: &mut [u32], flags: &mut [bool]) -> Answered
         requires { (length words.old ≡ self.m) × (length flags.old ≡ self.m) × (self.m < 65536) }
-        ensures { (q : Registers) (ads ss ls : List ℕ) (ms ds : List Bool) → reply (boxed q words.new flags.new ads ss ls ms ds result.state) result.answer ≡ sweep_clear (boxed q words.old flags.old ads ss ls ms ds self) }
+        ensures { (q : Registers) (ads ss ls : List ℕ) (ms ds : List Bool) → reply (boxed q words.new flags.new ads ss ls ms ds result.state) (number_of result.answer) ≡ sweep_clear (boxed q words.old flags.old ads ss ls ms ds self) }
     {
         let src = self.src;
         let index = self.index;
@@ -132,19 +133,19 @@ impl State {
             self.phase = 7;
             return Answered {
                 state: self,
-                answer: 30,
+                answer: Answer::Going,
             };
         }
         Answered {
             state: self,
-            answer: 9,
+            answer: Answer::Refused,
         }
     }
 
     // Phase 7, Sweep write: the copy register goes to dest + index. Answers 30, or 9 where that is not in memory.
     pub fn sweep_write(mut self, words: &mut [u32], flags: &mut [bool]) -> Answered
         requires { (length words.old ≡ self.m) × (length flags.old ≡ self.m) × (self.m < 65536) }
-        ensures { (q : Registers) (ads ss ls : List ℕ) (ms ds : List Bool) → reply (boxed q words.new flags.new ads ss ls ms ds result.state) result.answer ≡ sweep_write (boxed q words.old flags.old ads ss ls ms ds self) }
+        ensures { (q : Registers) (ads ss ls : List ℕ) (ms ds : List Bool) → reply (boxed q words.new flags.new ads ss ls ms ds result.state) (number_of result.answer) ≡ sweep_write (boxed q words.old flags.old ads ss ls ms ds self) }
     {
         let dest = self.dest;
         let index = self.index;
@@ -156,12 +157,12 @@ impl State {
             self.phase = 5;
             return Answered {
                 state: self,
-                answer: 30,
+                answer: Answer::Going,
             };
         }
         Answered {
             state: self,
-            answer: 9,
+            answer: Answer::Refused,
         }
     }
 
@@ -182,8 +183,8 @@ impl State {
     // what the end of the cycle gives, or 9.
     pub fn sweep_zero(mut self, words: &mut [u32], flags: &mut [bool]) -> Answered
         requires { (length words.old ≡ self.m) × (length flags.old ≡ self.m) × (self.m < 65536) }
-        ensures answer_after { (q : Registers) (ads ss ls : List ℕ) (ms ds : List Bool) → with_grant (reply (boxed q words.new flags.new ads ss ls ms ds result.state) result.answer) ≡ sweep_zero (boxed q words.old flags.old ads ss ls ms ds self) }
-        ensures grants { Grants self.m self.h result.state result.answer }
+        ensures answer_after { (q : Registers) (ads ss ls : List ℕ) (ms ds : List Bool) → with_grant (reply (boxed q words.new flags.new ads ss ls ms ds result.state) (number_of result.answer)) ≡ sweep_zero (boxed q words.old flags.old ads ss ls ms ds self) }
+        ensures grants { Grants self.m self.h result.state (number_of result.answer) }
     {
         let src = self.src;
         let index = self.index;
@@ -193,19 +194,19 @@ impl State {
             }
             return Answered {
                 state: self,
-                answer: 9,
+                answer: Answer::Refused,
             };
         }
         if reaches(self.m, src, index) {
             self = self.zero_word(words, flags);
             return Answered {
                 state: self,
-                answer: 30,
+                answer: Answer::Going,
             };
         }
         Answered {
             state: self,
-            answer: 9,
+            answer: Answer::Refused,
         }
     }
 }

@@ -5,10 +5,11 @@ ghost use Rattle.rules.specs.Limits.{register_count};
 ghost use Rattle.rules.specs.Box.{reply};
 ghost use Rattle.rules.specs.Parts.{Registers};
 ghost use Rattle.collector.specs.Boxed.{boxed};
+ghost use Rattle.collector.specs.Answer.{number_of};
 ghost use Rattle.rules.specs.Collector.{look_from, mark_root, end_marking, mark_next};
 ghost use Rattle.collector.specs.Decide.{found_as, with_grant, Grants};
 
-use crate::state::{Answered, State};
+use crate::state::{Answer, Answered, State};
 use crate::word::Word;
 
 impl State {
@@ -16,14 +17,14 @@ impl State {
     // gives, or 9 where that end is refused.
     fn end_marking(mut self, words: &[u32], flags: &[bool]) -> Answered
         requires { (length words.now ≡ self.m) × (length flags.now ≡ self.m) × (0 < self.m) }
-        ensures answer_value { (q : Registers) (ads ss ls : List ℕ) (ms ds : List Bool) → with_grant (reply (boxed q words.now flags.now ads ss ls ms ds result.state) result.answer) ≡ end_marking (boxed q words.now flags.now ads ss ls ms ds self) }
-        ensures grants { Grants self.m self.h result.state result.answer }
+        ensures answer_value { (q : Registers) (ads ss ls : List ℕ) (ms ds : List Bool) → with_grant (reply (boxed q words.now flags.now ads ss ls ms ds result.state) (number_of result.answer)) ≡ end_marking (boxed q words.now flags.now ads ss ls ms ds self) }
+        ensures grants { Grants self.m self.h result.state (number_of result.answer) }
     {
         if self.top == 0 {
             if self.end_refused() {
                 return Answered {
                     state: self,
-                    answer: 9,
+                    answer: Answer::Refused,
                 };
             }
             return self.end_cycle();
@@ -38,16 +39,15 @@ impl State {
         self.phase = 4;
         Answered {
             state: self,
-            answer: 30,
+            answer: Answer::Going,
         }
     }
 
-    // Shades the tuple of handle h, which the lowest register that points to an unmarked one names, and with no such register
-    // ends marking. Answers 9 where that register names no entry or its tuple can't be shaded.
+    // Shades the tuple of the root's handle, which the lowest register that points to an unmarked one names, and with no root ends
+    // marking. Answers 9 where that register names no entry or its tuple can't be shaded.
     fn mark_root(
         mut self,
-        there: bool,
-        h: u32,
+        root: Option<u32>,
         words: &[u32],
         flags: &[bool],
         sizes: &[u32],
@@ -56,29 +56,28 @@ impl State {
         deeps: &[bool],
     ) -> Answered
         requires { (length words.now ≡ self.m) × (length flags.now ≡ self.m) × (length sizes.now ≡ self.h) × (length links.old ≡ self.h) × (length marks.old ≡ self.h) × (length deeps.now ≡ self.h) × (self.m < 65536) × (0 < self.m) }
-        ensures answer_after { (q : Registers) (ads : List ℕ) → with_grant (reply (boxed q words.now flags.now ads sizes.now links.new marks.new deeps.now result.state) result.answer) ≡ mark_root (found_as there h (boxed q words.now flags.now ads sizes.now links.old marks.old deeps.now self)) (boxed q words.now flags.now ads sizes.now links.old marks.old deeps.now self) }
-        ensures grants { Grants self.m self.h result.state result.answer }
+        ensures answer_after { (q : Registers) (ads : List ℕ) → with_grant (reply (boxed q words.now flags.now ads sizes.now links.new marks.new deeps.now result.state) (number_of result.answer)) ≡ mark_root (found_as root (boxed q words.now flags.now ads sizes.now links.old marks.old deeps.now self)) (boxed q words.now flags.now ads sizes.now links.old marks.old deeps.now self) }
+        ensures grants { Grants self.m self.h result.state (number_of result.answer) }
     {
-        if there {
-            let mut answer: u32 = 9;
-            if self.can_shade(h, sizes, marks) {
-                self = self.shade(h, sizes, links, marks, deeps);
-                answer = 30;
-            }
-            return Answered {
-                state: self,
-                answer,
-            };
+        let Some(h) = root else {
+            return self.end_marking(words, flags);
+        };
+        let mut answer = Answer::Refused;
+        if self.can_shade(h, sizes, marks) {
+            self = self.shade(h, sizes, links, marks, deeps);
+            answer = Answer::Going;
         }
-        self.end_marking(words, flags)
+        Answered {
+            state: self,
+            answer,
+        }
     }
 
     // Phase 1, Mark next: the head of the next list is taken to scan; with that list empty, what a look at the registers found is
-    // a handle h or nothing. Answers 30, what the end of the cycle gives, or 9.
+    // a handle or nothing. Answers 30, what the end of the cycle gives, or 9.
     pub fn mark_next(
         mut self,
-        there: bool,
-        h: u32,
+        root: Option<u32>,
         words: &[u32],
         flags: &[bool],
         addresses: &[u32],
@@ -88,11 +87,11 @@ impl State {
         deeps: &[bool],
     ) -> Answered
         requires { (length words.now ≡ self.m) × (length flags.now ≡ self.m) × (length addresses.now ≡ self.h) × (length sizes.now ≡ self.h) × (length links.old ≡ self.h) × (length marks.old ≡ self.h) × (length deeps.now ≡ self.h) × (self.m < 65536) × (0 < self.m) }
-        ensures answer_after { (q : Registers) → (self.next ≡ 0 → found_as there h (boxed q words.now flags.now addresses.now sizes.now links.old marks.old deeps.now self) ≡ look_from register_count (boxed q words.now flags.now addresses.now sizes.now links.old marks.old deeps.now self)) → with_grant (reply (boxed q words.now flags.now addresses.now sizes.now links.new marks.new deeps.now result.state) result.answer) ≡ mark_next (boxed q words.now flags.now addresses.now sizes.now links.old marks.old deeps.now self) }
-        ensures grants { Grants self.m self.h result.state result.answer }
+        ensures answer_after { (q : Registers) → (self.next ≡ 0 → found_as root (boxed q words.now flags.now addresses.now sizes.now links.old marks.old deeps.now self) ≡ look_from register_count (boxed q words.now flags.now addresses.now sizes.now links.old marks.old deeps.now self)) → with_grant (reply (boxed q words.now flags.now addresses.now sizes.now links.new marks.new deeps.now result.state) (number_of result.answer)) ≡ mark_next (boxed q words.now flags.now addresses.now sizes.now links.old marks.old deeps.now self) }
+        ensures grants { Grants self.m self.h result.state (number_of result.answer) }
     {
         if self.next == 0 {
-            return self.mark_root(there, h, words, flags, sizes, links, marks, deeps);
+            return self.mark_root(root, words, flags, sizes, links, marks, deeps);
         }
         self.scan_next(addresses, sizes, links)
     }

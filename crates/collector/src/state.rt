@@ -1,5 +1,8 @@
 // What a rule of the collector needs beside the columns: the numbers of a box, without its registers. It goes in by value and
 // comes back by value. Any field may hold any value: a rule that cannot be carried out answers 9.
+ghost use Rattle.std.specs.Prelude.{◌≡◌};
+ghost use Rattle.collector.specs.Answer.{number_of};
+
 #[derive(Clone, Copy)]
 pub struct State {
     // The sizes stated at the opening: M words and H directory entries.
@@ -31,9 +34,35 @@ pub struct State {
     pub hold_tag: u16,
 }
 
-// What a rule leaves, and its answer: a number of document 01.
+// What a step answers, each with its number in document 01.
+#[derive(Clone, Copy, PartialEq, Eq)]
+pub enum Answer {
+    // The cycle has ended, and the held request is dropped.
+    Dropped = 8,
+    // The step cannot be done, and all is as it was found.
+    Refused = 9,
+    // The cycle goes on.
+    Going = 30,
+    // The cycle has ended, and nothing was held.
+    Ended = 31,
+    // The cycle has ended, and the held request is granted.
+    Granted = 32,
+    // The cycle has ended, and the request is still held.
+    StillHeld = 33,
+}
+
+impl Answer {
+    // The answer's number.
+    pub fn number(self) -> u32
+        ensures { result ≡ number_of self }
+    {
+        self as u32
+    }
+}
+
+// What a rule leaves, and its answer.
 #[derive(Clone, Copy)]
 pub struct Answered {
     pub state: State,
-    pub answer: u32,
+    pub answer: Answer,
 }

@@ -3,11 +3,12 @@ ghost use Rattle.std.specs.Prelude.{Bool, List, ◌≡◌, ℕ, ◌+◌, ◌<◌
 ghost use Rattle.rules.specs.Parts.{Registers, with_size};
 ghost use Rattle.rules.specs.Box.{reply};
 ghost use Rattle.collector.specs.Boxed.{boxed};
+ghost use Rattle.collector.specs.Answer.{number_of};
 ghost use Rattle.rules.specs.Collector.{go_on, start_zero, keep_in_place, release, sweep_tuple, sweep_scan};
 ghost use Rattle.collector.specs.Decide.{with_grant, Grants};
 
 use crate::place::reaches;
-use crate::state::{Answered, State};
+use crate::state::{Answer, Answered, State};
 use crate::word::Word;
 
 impl State {
@@ -52,8 +53,8 @@ impl State {
         marks: &mut [bool],
     ) -> Answered
         requires { (length words.now ≡ self.m) × (length flags.now ≡ self.m) × (length marks.old ≡ self.h) × (self.m < 65536) × (self.tuple < self.h) × (self.src + size + 1 ≤ self.m) }
-        ensures answer_after { (q : Registers) (ads ss ls : List ℕ) (ds : List Bool) → with_grant (reply (boxed q words.now flags.now ads ss ls marks.new ds result.state) result.answer) ≡ keep_in_place (boxed q words.now flags.now ads ss ls marks.old ds self) (with_size size (boxed q words.now flags.now ads ss ls marks.old ds self)) }
-        ensures grants { Grants self.m self.h result.state result.answer }
+        ensures answer_after { (q : Registers) (ads ss ls : List ℕ) (ds : List Bool) → with_grant (reply (boxed q words.now flags.now ads ss ls marks.new ds result.state) (number_of result.answer)) ≡ keep_in_place (boxed q words.now flags.now ads ss ls marks.old ds self) (with_size size (boxed q words.now flags.now ads ss ls marks.old ds self)) }
+        ensures grants { Grants self.m self.h result.state (number_of result.answer) }
     {
         let entry = self.tuple as usize;
         let after = self.src + size + 1;
@@ -61,7 +62,7 @@ impl State {
             if self.end_refused() {
                 return Answered {
                     state: self,
-                    answer: 9,
+                    answer: Answer::Refused,
                 };
             }
             marks[entry] = false;
@@ -71,7 +72,7 @@ impl State {
         if self.m <= after {
             return Answered {
                 state: self,
-                answer: 9,
+                answer: Answer::Refused,
             };
         }
         marks[entry] = false;
@@ -80,7 +81,7 @@ impl State {
         self = self.go_on(after, words, flags);
         Answered {
             state: self,
-            answer: 30,
+            answer: Answer::Going,
         }
     }
 
@@ -88,7 +89,7 @@ impl State {
     // words become data 0. Answers 30, or 9 where the next tuple is not in memory.
     fn release(mut self, size: u32, words: &[u32], flags: &[bool], links: &mut [u32]) -> Answered
         requires { (length words.now ≡ self.m) × (length flags.now ≡ self.m) × (length links.old ≡ self.h) × (self.m < 65536) × (self.tuple < self.h) × (self.src + size + 1 ≤ self.m) }
-        ensures { (q : Registers) (ads ss : List ℕ) (ms ds : List Bool) → reply (boxed q words.now flags.now ads ss links.new ms ds result.state) result.answer ≡ release (boxed q words.now flags.now ads ss links.old ms ds self) (with_size size (boxed q words.now flags.now ads ss links.old ms ds self)) }
+        ensures { (q : Registers) (ads ss : List ℕ) (ms ds : List Bool) → reply (boxed q words.now flags.now ads ss links.new ms ds result.state) (number_of result.answer) ≡ release (boxed q words.now flags.now ads ss links.old ms ds self) (with_size size (boxed q words.now flags.now ads ss links.old ms ds self)) }
     {
         let free = self.free;
         let tuple = self.tuple;
@@ -102,12 +103,12 @@ impl State {
                 self = self.go_on(last + 1, words, flags);
                 return Answered {
                     state: self,
-                    answer: 30,
+                    answer: Answer::Going,
                 };
             }
             return Answered {
                 state: self,
-                answer: 9,
+                answer: Answer::Refused,
             };
         }
         links[i] = free;
@@ -116,7 +117,7 @@ impl State {
         self = self.start_zero();
         Answered {
             state: self,
-            answer: 30,
+            answer: Answer::Going,
         }
     }
 
@@ -131,8 +132,8 @@ impl State {
         marks: &mut [bool],
     ) -> Answered
         requires { (length words.now ≡ self.m) × (length flags.now ≡ self.m) × (length links.old ≡ self.h) × (length marks.old ≡ self.h) × (self.m < 65536) × (self.tuple < self.h) }
-        ensures answer_after { (q : Registers) (ads ss : List ℕ) (ds : List Bool) → with_grant (reply (boxed q words.now flags.now ads ss links.new marks.new ds result.state) result.answer) ≡ sweep_tuple (boxed q words.now flags.now ads ss links.old marks.old ds self) (with_size size (boxed q words.now flags.now ads ss links.old marks.old ds self)) }
-        ensures grants { Grants self.m self.h result.state result.answer }
+        ensures answer_after { (q : Registers) (ads ss : List ℕ) (ds : List Bool) → with_grant (reply (boxed q words.now flags.now ads ss links.new marks.new ds result.state) (number_of result.answer)) ≡ sweep_tuple (boxed q words.now flags.now ads ss links.old marks.old ds self) (with_size size (boxed q words.now flags.now ads ss links.old marks.old ds self)) }
+        ensures grants { Grants self.m self.h result.state (number_of result.answer) }
     {
         let src = self.src;
         let i = self.tuple as usize;
@@ -147,14 +148,14 @@ impl State {
                 self.phase = 5;
                 return Answered {
                     state: self,
-                    answer: 30,
+                    answer: Answer::Going,
                 };
             }
             return self.release(size, words, flags, links);
         }
         Answered {
             state: self,
-            answer: 9,
+            answer: Answer::Refused,
         }
     }
 
@@ -169,8 +170,8 @@ impl State {
         marks: &mut [bool],
     ) -> Answered
         requires { (length words.now ≡ self.m) × (length flags.now ≡ self.m) × (length sizes.now ≡ self.h) × (length links.old ≡ self.h) × (length marks.old ≡ self.h) × (self.m < 65536) }
-        ensures answer_after { (q : Registers) (ads : List ℕ) (ds : List Bool) → with_grant (reply (boxed q words.now flags.now ads sizes.now links.new marks.new ds result.state) result.answer) ≡ sweep_scan (boxed q words.now flags.now ads sizes.now links.old marks.old ds self) }
-        ensures grants { Grants self.m self.h result.state result.answer }
+        ensures answer_after { (q : Registers) (ads : List ℕ) (ds : List Bool) → with_grant (reply (boxed q words.now flags.now ads sizes.now links.new marks.new ds result.state) (number_of result.answer)) ≡ sweep_scan (boxed q words.now flags.now ads sizes.now links.old marks.old ds self) }
+        ensures grants { Grants self.m self.h result.state (number_of result.answer) }
     {
         let h = self.tuple;
         if self.is_entry(h) {
@@ -180,7 +181,7 @@ impl State {
         }
         Answered {
             state: self,
-            answer: 9,
+            answer: Answer::Refused,
         }
     }
 }

@@ -4,7 +4,7 @@ ghost use Rattle.rules.specs.Box.{handle_of, offset_of, names_tuple};
 ghost use Rattle.collector.specs.Boxed.{word_of};
 
 // 32 bits, and whether they are a pointer.
-#[derive(Clone, Copy)]
+#[derive(Clone, Copy, PartialEq, Eq)]
 pub struct Word {
     pub bits: u32,
     pub flag: bool,

@@ -1,5 +1,5 @@
+pub mod Columns
 pub mod Fields
-pub mod Lengths
 pub mod Making
 pub mod Reading
 pub mod Settled

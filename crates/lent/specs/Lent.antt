@@ -3,11 +3,11 @@
 --             14 to 21 the registers
 --   switches  0 to 7 whether the registers are pointers, 8 the copy's flag, 9 held, 10 begun
 --   hold      register, size, tag
-use Rattle.std.specs.Prelude.{ℕ, Bool, false, cond, List, ◌≡◌, eqb, length, get_or, set, drop, take, replicate}
+use Rattle.std.specs.Prelude.{ℕ, ◌+◌, ◌<◌, ◌≤◌, Bool, false, cond, List, ◌≡◌, eqb, length, get_or, set, drop, take, replicate}
 use Rattle.std.specs.Bool.{beq}
 use Rattle.rules.specs.Parts.{Word, Registers, Box}
-use Rattle.rules.specs.Box.{Reply, reply}
 use Rattle.collector.specs.declared.state.State.{State}
+use Rattle.lent.specs.declared.unit.MemoryUnit.{MemoryUnit}
 use Rattle.collector.specs.Boxed.{boxed}
 
 -- the struct that the collector's rules take
@@ -21,6 +21,26 @@ registers_of ns sw = record { words = drop 14 ns; flags = take 8 sw }
 abbrev pub lent : List ℕ → List Bool → List ℕ → List ℕ → List Bool → List ℕ → List ℕ → List ℕ → List Bool → List Bool → Box
 lent ns sw hd ws fs ads ss ls ms ds = boxed (registers_of ns sw) ws fs ads ss ls ms ds (state_of ns sw hd)
 
+-- ---- the memory unit as a call is lent it
+
+abbrev pub state_in : MemoryUnit → State
+state_in u = state_of u.numbers.now u.switches.now u.hold.now
+
+-- the box, with another struct in place of its own
+abbrev pub box_with : MemoryUnit → State → Box
+box_with u s = boxed (registers_of u.numbers.now u.switches.now) u.words.now u.flags.now u.addresses.now u.sizes.now u.links.now u.marks.now u.deeps.now s
+
+abbrev pub box_of : MemoryUnit → Box
+box_of u = lent u.numbers.now u.switches.now u.hold.now u.words.now u.flags.now u.addresses.now u.sizes.now u.links.now u.marks.now u.deeps.now
+
+-- a rule leaves M, H and what the held request asks for
+abbrev pub Keeps : State → State → Type 0
+Keeps s x = (x.m ≡ s.m) × (x.h ≡ s.h) × (x.hold_register ≡ s.hold_register) × (x.hold_size ≡ s.hold_size) × (x.hold_tag ≡ s.hold_tag)
+
+-- each part is the caller's still: a call that is lent the whole unit writes to its parts, and puts no others in their place
+abbrev pub SameReferences : MemoryUnit → MemoryUnit → Type 0
+SameReferences u v = (v.numbers.ghost_name ≡ u.numbers.ghost_name) × (v.switches.ghost_name ≡ u.switches.ghost_name) × (v.hold.ghost_name ≡ u.hold.ghost_name) × (v.words.ghost_name ≡ u.words.ghost_name) × (v.flags.ghost_name ≡ u.flags.ghost_name) × (v.addresses.ghost_name ≡ u.addresses.ghost_name) × (v.sizes.ghost_name ≡ u.sizes.ghost_name) × (v.links.ghost_name ≡ u.links.ghost_name) × (v.marks.ghost_name ≡ u.marks.ghost_name) × (v.deeps.ghost_name ≡ u.deeps.ghost_name)
+
 -- ---- registers
 
 -- what register r holds, and the registers with a word put into r
@@ -29,10 +49,6 @@ register_in r q = record { bits = get_or q.words r 0; flag = get_or q.flags r fa
 
 abbrev pub put_in : ℕ → Word → Registers → Registers
 put_in r w q = record { words = set q.words r w.bits; flags = set q.flags r w.flag }
-
--- a call that may change the registers alone leaves and answers this, whatever else is lent
-abbrev pub Leaves : List ℕ → List Bool → List ℕ → List Bool → ℕ → (Box → Reply) → Type 0
-Leaves ns sw ns1 sw1 a f = (hd : List ℕ) (ws : List ℕ) (fs : List Bool) (ads ss ls : List ℕ) (ms ds : List Bool) → reply (lent ns1 sw1 hd ws fs ads ss ls ms ds) a ≡ f (lent ns sw hd ws fs ads ss ls ms ds)
 
 -- ---- numbers and switches
 
@@ -55,6 +71,14 @@ opened_hold = replicate 3 0
 
 -- ---- lengths
 
--- the columns of a box have these lengths
-abbrev pub HasLengths : Box → ℕ → ℕ → ℕ → ℕ → ℕ → ℕ → ℕ → Type 0
-HasLengths b w f a z l k d = (length b.memory.words ≡ w) × (length b.memory.flags ≡ f) × (length b.directory.addresses ≡ a) × (length b.directory.sizes ≡ z) × (length b.directory.links ≡ l) × (length b.directory.marks ≡ k) × (length b.directory.deeps ≡ d)
+-- the memory has M words and flags, and M is within the limits
+abbrev pub HasWords : MemoryUnit → Type 0
+HasWords u = (length u.words.now ≡ (state_in u).m) × (length u.flags.now ≡ (state_in u).m) × ((state_in u).m < 65536)
+
+-- the directory has H entries too, and H is within the limits
+abbrev pub HasColumns : MemoryUnit → Type 0
+HasColumns u = HasWords u × (length u.addresses.now ≡ (state_in u).h) × (length u.sizes.now ≡ (state_in u).h) × (length u.links.now ≡ (state_in u).h) × (length u.marks.now ≡ (state_in u).h) × (length u.deeps.now ≡ (state_in u).h) × ((state_in u).h ≤ 4096) × (0 < (state_in u).m)
+
+-- a tuple of n words can be made: its handle can be looked up, and neither top nor, outside Rest, live goes beyond M
+abbrev pub HasRoom : State → ℕ → Type 0
+HasRoom s n = (s.free < s.h) × (s.top + n + 1 ≤ s.m) × ((s.phase ≡ 0 → ⊥) → s.live + n + 1 ≤ s.m)

@@ -5,8 +5,6 @@ mod arrays;
 mod limits;
 mod registers;
 mod tuple;
+mod unit;
 
-pub use arrays::{put_lists, put_room, put_switches, put_walk, taken};
-pub use limits::{right_sizes, sound};
-pub use registers::{put_register, register};
-pub use tuple::{grant, make};
+pub use unit::MemoryUnit;

@@ -6,7 +6,7 @@ ghost use Rattle.lent.specs.Lent.{state_of, registers_of, register_in, put_in};
 use collector::Word;
 
 // What register r holds.
-pub fn register(r: u16, numbers: &[u32; 22], switches: &[bool; 11]) -> Word
+pub(crate) fn word_in(r: u16, numbers: &[u32; 22], switches: &[bool; 11]) -> Word
     requires { r < 8 }
     ensures { word_of result ≡ register_in r (registers_of numbers.now switches.now) }
 {
@@ -19,10 +19,10 @@ pub fn register(r: u16, numbers: &[u32; 22], switches: &[bool; 11]) -> Word
 }
 
 // Register r becomes a word.
-pub fn put_register(r: u16, w: Word, numbers: &mut [u32; 22], switches: &mut [bool; 11])
+pub(crate) fn put_word(r: u16, w: Word, numbers: &mut [u32; 22], switches: &mut [bool; 11])
     requires { r < 8 }
-    ensures switches_after { registers_of numbers.new switches.new ≡ put_in r (word_of w) (registers_of numbers.old switches.old) }
-    ensures by_index { (hd : List ℕ) → state_of numbers.new switches.new hd ≡ state_of numbers.old switches.old hd }
+    ensures registers { registers_of numbers.new switches.new ≡ put_in r (word_of w) (registers_of numbers.old switches.old) }
+    ensures state { (hd : List ℕ) → state_of numbers.new switches.new hd ≡ state_of numbers.old switches.old hd }
 {
     let i = r as usize;
     let at = i + 14;

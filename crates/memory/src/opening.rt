@@ -2,10 +2,13 @@
 ghost use Rattle.std.specs.Prelude.{◌≡◌};
 ghost use Rattle.rules.specs.Box.{reply};
 ghost use Rattle.rules.specs.Open.{opening};
-ghost use Rattle.lent.specs.Lent.{lent, opened_numbers, opened_switches, opened_hold};
+ghost use Rattle.lent.specs.Lent.{box_of, SameReferences, opened_numbers, opened_switches, opened_hold};
 
-use crate::fill::{clear, link_all, unset};
-use lent::right_sizes;
+use crate::links::link_all;
+use lent::MemoryUnit;
+
+// Document 01's number for sizes that are out of range or not the lent lengths.
+const WRONG_SIZES: u32 = 10;
 
 // The state of a new box: registers data 0, the free list from 1, Rest, nothing held, and every other number 0.
 fn new_state(
@@ -27,42 +30,21 @@ fn new_state(
 
 // Opens a box of m words and h entries. Answers 0; 10 where m or h is out of range or not the lent lengths, and then all is as it
 // was found.
-pub fn open(
-    m: u32,
-    h: u32,
-    numbers: &mut [u32; 22],
-    switches: &mut [bool; 11],
-    hold: &mut [u16; 3],
-    words: &mut [u32],
-    flags: &mut [bool],
-    addresses: &mut [u32],
-    sizes: &mut [u32],
-    links: &mut [u32],
-    marks: &mut [bool],
-    deeps: &mut [bool],
-) -> u32
-    ensures { reply (lent numbers.new switches.new hold.new words.new flags.new addresses.new sizes.new links.new marks.new deeps.new) result ≡ opening m h (lent numbers.old switches.old hold.old words.old flags.old addresses.old sizes.old links.old marks.old deeps.old) }
+#[tactic(auto, unfolding(rules::specs::Open::opening))]
+pub fn open(unit: &mut MemoryUnit<'_>, m: u32, h: u32) -> u32
+    ensures same_references { SameReferences unit.old unit.new }
+    ensures answered { reply (box_of unit.new) result ≡ opening m h (box_of unit.old) }
 {
-    if right_sizes(
-        m,
-        h,
-        words.len(),
-        flags.len(),
-        addresses.len(),
-        sizes.len(),
-        links.len(),
-        marks.len(),
-        deeps.len(),
-    ) {
-        clear(words);
-        unset(flags);
-        clear(addresses);
-        clear(sizes);
-        link_all(links);
-        unset(marks);
-        unset(deeps);
-        new_state(m, h, numbers, switches, hold);
-        return 0;
+    if !unit.right_sizes(m, h) {
+        return WRONG_SIZES;
     }
-    10
+    unit.words.fill(0);
+    unit.flags.fill(false);
+    unit.addresses.fill(0);
+    unit.sizes.fill(0);
+    link_all(unit.links);
+    unit.marks.fill(false);
+    unit.deeps.fill(false);
+    new_state(m, h, unit.numbers, unit.switches, unit.hold);
+    0
 }

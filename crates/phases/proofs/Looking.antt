@@ -2,13 +2,17 @@
 -- down the count of registers left. Assumes nothing.
 use Prim.Native.Nat.{ℕ, suc, ◌+◌, ◌-◌, ◌<◌, ◌≤◌}
 use mathlib.Core.Bool.{Bool, true, false, not, cond, ◌&&◌, ◌||◌, false≢true}
-use mathlib.Core.Path.{◌≡◌, refl, sym, ap, ◌∙◌}
+use Rattle.std.specs.Prelude.{Option, None, Some}
+use mathlib.Core.Path.{◌≡◌, refl, sym, ap, ◌∙◌, subst}
 use native.Mathlib.Omega.{arith}
 use Rattle.rules.specs.Parts.{Word, Box}
 use Rattle.rules.specs.Box.{handle_of, names_tuple, register, marked, is_entry}
 use Rattle.rules.specs.Collector.{Found, unmarked, damaged, look_register, look_from}
+use Rattle.collector.specs.declared.state.State.{State}
 use Rattle.collector.specs.Decide.{found_as}
 use Rattle.collector.proofs.Entries.{entry, entry_far}
+use Rattle.lent.specs.declared.unit.MemoryUnit.{MemoryUnit}
+use Rattle.lent.specs.Lent.{state_in, box_with, box_of}
 use Rattle.phases.specs.Passing.{passed_over}
 
 -- ---- one register's word
@@ -55,17 +59,23 @@ stopping true true false h later t = refl
 stopping true false m h later t = refl
 stopping false i m h later t = absurd (false≢true (sym t))
 
-pub look_on : (r : ℕ) (b : Box) → r < 8 → passed_over (register r b) b ≡ true → look_from (8 - r) b ≡ look_from (8 - (r + 1)) b
-unfolding look_register passed_over
-look_on r b o t = look_at r b o ∙ passing (names_tuple (register r b)) (is_entry (handle_of (register r b)) b) (marked (handle_of (register r b)) b) (handle_of (register r b)) (look_from (8 - (r + 1)) b) t
+module _ (r : ℕ) (w : Word) (t : Bool) (b : Box) (o : r < 8) (e : w ≡ register r b) (p : t ≡ passed_over w b) (k : look_from (8 - r) b ≡ look_from 8 b) where
+  pub look_on : t ≡ true → look_from (8 - (r + 1)) b ≡ look_from 8 b
+  unfolding look_register passed_over
+  look_on f = sym (passing (names_tuple (register r b)) (is_entry (handle_of (register r b)) b) (marked (handle_of (register r b)) b) (handle_of (register r b)) (look_from (8 - (r + 1)) b) (ap (λ (v : Word). passed_over v b) (sym e) ∙ sym p ∙ f)) ∙ sym (look_at r b o) ∙ k
 
-pub look_stop : (r : ℕ) (b : Box) → r < 8 → passed_over (register r b) b ≡ false → found_as true (handle_of (register r b)) b ≡ look_from (8 - r) b
-unfolding look_register passed_over found_as
-look_stop r b o t = stopping (names_tuple (register r b)) (is_entry (handle_of (register r b)) b) (marked (handle_of (register r b)) b) (handle_of (register r b)) (look_from (8 - (r + 1)) b) t ∙ sym (look_at r b o)
+  pub look_stop : (h : ℕ) → h ≡ handle_of w → t ≡ false → found_as (Some h) b ≡ look_from 8 b
+  unfolding look_register passed_over found_as
+  look_stop h q f =
+      ap (λ (n : ℕ). cond (is_entry n b) (unmarked n) damaged) (q ∙ ap handle_of e)
+      ∙ stopping (names_tuple (register r b)) (is_entry (handle_of (register r b)) b) (marked (handle_of (register r b)) b) (handle_of (register r b)) (look_from (8 - (r + 1)) b) (ap (λ (v : Word). passed_over v b) (sym e) ∙ sym p ∙ f)
+      ∙ sym (look_at r b o) ∙ k
 
-look_none : (h : ℕ) (b : Box) → found_as false h b ≡ look_from 0 b
+pub look_end : (b : Box) → found_as None b ≡ look_from 0 b
 unfolding look_from found_as
-look_none h b = refl
+look_end b = refl
 
-pub look_end : (r h : ℕ) (b : Box) → 8 ≤ r → found_as false h b ≡ look_from (8 - r) b
-look_end r h b o = look_none h b ∙ ap (λ (n : ℕ). look_from n b) (omega arith)
+-- what a look at the lent parts finds, with the struct that was taken out of them in its place
+pub look_taken : (u : MemoryUnit) (s : State) (root : Option ℕ) → s ≡ state_in u → (s.next ≡ 0 → found_as root (box_of u) ≡ look_from 8 (box_of u))
+    → s.next ≡ 0 → found_as root (box_with u s) ≡ look_from 8 (box_with u s)
+look_taken u s root e f z = subst (λ (y : State). found_as root (box_with u y) ≡ look_from 8 (box_with u y)) (sym e) (f z)

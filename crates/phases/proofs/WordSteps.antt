@@ -1,114 +1,94 @@
--- A step that only goes through a tuple's words, by its cases; and what it comes to: it is the step, or it answers 0 and nothing was done.
--- By computing the definition under the facts of each case. Assumes nothing.
+-- A step that only goes through a tuple's words, by its cases; and what it comes to: a reply is the step's. By computing the definition under
+-- the facts of each case. Assumes nothing.
 use Prim.Native.Nat.{ℕ, ◌+◌, ◌<◌, ◌≤◌}
-use mathlib.Core.Bool.{Bool, true, false, cond, ◌&&◌}
-use mathlib.Core.Path.{◌≡◌, refl, sym, ◌∙◌, ap}
-use native.Mathlib.Omega.{arith}
-use lib.Dec.{leb, ltb, eqb}
-use borrow.Author.Tests.{lt-leb, le-leb, leb-true, ltb-true, eq-eqb, ne_eqb, eqb-true}
+use mathlib.Core.Bool.{Bool, true, false, cond}
+use mathlib.Core.Logic.{◌≢◌}
+use mathlib.Core.Path.{◌≡◌, refl, sym, ap, subst}
+use lib.Dec.{eqb}
+use borrow.Author.Tests.{lt-ltb, eq-eqb, ne_eqb, eqb-true}
+use Rattle.std.specs.Prelude.{Option, None, Some, IfSome}
 use Rattle.rules.specs.Parts.{Box}
 use Rattle.rules.specs.Box.{Reply, reply, sound}
-use Rattle.rules.specs.Collector.{mark_scan, sweep_read, sweep_clear, sweep_write, sweep_zero, rule_of, step}
-use Rattle.rules.proofs.Demand1.{step_between}
-use Rattle.rules.proofs.Sizes.{and_left, and_right}
+use Rattle.rules.specs.Collector.{scan_word, mark_scan, copy_word, sweep_read, sweep_clear, sweep_write, zero_word, sweep_zero, rule_of, step}
+use Rattle.collector.proofs.Marking.{mark_scan_word}
+use Rattle.collector.proofs.Moving.{read_word, zero_done}
 use Rattle.phases.specs.Words.{at_word, word_step}
-use Rattle.phases.proofs.Picking.{rule_at}
 
--- ---- the test
+-- ---- the rules at a word: x is what the method left of b
 
-pub behind_last : (m src size index : ℕ) → size < index → false ≡ (leb index size && ltb (src + index) m)
-behind_last m src size index h = simp (lt-leb index size h)
+module _ (b x : Box) (i : b.collector.index ≤ b.collector.size) (l : b.collector.src + b.collector.index < b.m) where
+  pub scan_at : x ≡ scan_word b → reply x 30 ≡ mark_scan b
+  scan_at e = mark_scan_word b x i (lt-ltb _ _ l) e
 
-pub up_to_last : (m src size index : ℕ) (t : Bool) → index ≤ size → t ≡ ltb (src + index) m → t ≡ (leb index size && ltb (src + index) m)
-up_to_last m src size index t h e = simp (le-leb index size h, e)
+  pub read_at : x ≡ copy_word (b.collector.src + b.collector.index) b → reply x 30 ≡ sweep_read b
+  read_at e = read_word b x i (lt-ltb _ _ l) e
 
--- where it holds
-pub has_word : (m src size index : ℕ) (t : Bool) → t ≡ (leb index size && ltb (src + index) m) → t ≡ true → (index ≤ size) × (src + index < m)
-has_word m src size index t e h =
-    let both : (leb index size && ltb (src + index) m) ≡ true = sym e ∙ h in
-    (leb-true index size (and_left (leb index size) _ both), ltb-true (src + index) m (and_right (leb index size) _ both))
+  pub zero_at : x ≡ zero_word b → reply x 30 ≡ sweep_zero b
+  zero_at e = zero_done b x i (lt-ltb _ _ l) e
 
 -- ---- the cases
 
-module _ (b : Box) (r : Reply) where
-  pub words_7 : b.collector.phase ≡ 7 → r ≡ sweep_write b → r ≡ word_step b
+module _ (b : Box) where
+  pub words_7 : b.collector.phase ≡ 7 → word_step b ≡ Some (sweep_write b)
   unfolding word_step
-  words_7 e q = simp (eq-eqb b.collector.phase 7 e, q)
+  words_7 e = simp (eq-eqb b.collector.phase 7 e)
 
-  pub words_6 : (b.collector.phase ≡ 7 → ⊥) → b.collector.phase ≡ 6 → r ≡ sweep_clear b → r ≡ word_step b
+  pub words_6 : b.collector.phase ≡ 6 → word_step b ≡ Some (sweep_clear b)
   unfolding word_step
-  words_6 x e q = simp (ne_eqb b.collector.phase 7 x, eq-eqb b.collector.phase 6 e, q)
+  words_6 e = simp e
 
-  -- k is what the code's test gave
-  module _ (x : b.collector.phase ≡ 7 → ⊥) (y : b.collector.phase ≡ 6 → ⊥) (k : Bool) (f : k ≡ at_word b) where
-    pub words_none : k ≡ false → r ≡ reply b 0 → r ≡ word_step b
+  module _ (t : at_word b ≡ true) where
+    pub words_5 : b.collector.phase ≡ 5 → word_step b ≡ Some (sweep_read b)
     unfolding word_step
-    words_none t q = simp (ne_eqb b.collector.phase 7 x, ne_eqb b.collector.phase 6 y, ← f, t, q)
+    words_5 e = simp (e, t)
 
-    module _ (t : k ≡ true) where
-      pub words_5 : b.collector.phase ≡ 5 → r ≡ sweep_read b → r ≡ word_step b
-      unfolding word_step
-      words_5 e q = simp (ne_eqb b.collector.phase 7 x, ne_eqb b.collector.phase 6 y, ← f, t, eq-eqb b.collector.phase 5 e, q)
+    pub words_2 : b.collector.phase ≡ 2 → word_step b ≡ Some (mark_scan b)
+    unfolding word_step
+    words_2 e = simp (e, t)
 
-      pub words_2 : (b.collector.phase ≡ 5 → ⊥) → b.collector.phase ≡ 2 → r ≡ mark_scan b → r ≡ word_step b
-      unfolding word_step
-      words_2 z e q = simp (ne_eqb b.collector.phase 7 x, ne_eqb b.collector.phase 6 y, ← f, t, ne_eqb b.collector.phase 5 z, eq-eqb b.collector.phase 2 e, q)
+    pub words_8 : b.collector.phase ≡ 8 → word_step b ≡ Some (sweep_zero b)
+    unfolding word_step
+    words_8 e = simp (e, t)
 
-      pub words_8 : (b.collector.phase ≡ 5 → ⊥) → (b.collector.phase ≡ 2 → ⊥) → b.collector.phase ≡ 8 → r ≡ sweep_zero b → r ≡ word_step b
-      unfolding word_step
-      words_8 z w e q = simp (ne_eqb b.collector.phase 7 x, ne_eqb b.collector.phase 6 y, ← f, t, ne_eqb b.collector.phase 5 z, ne_eqb b.collector.phase 2 w, eq-eqb b.collector.phase 8 e, q)
+  module _ (x : b.collector.phase ≢ 7) (y : b.collector.phase ≢ 6) where
+    pub words_none : at_word b ≡ false → word_step b ≡ None
+    unfolding word_step
+    words_none t = simp (ne_eqb b.collector.phase 7 x, ne_eqb b.collector.phase 6 y, t)
 
-      pub words_other : (b.collector.phase ≡ 5 → ⊥) → (b.collector.phase ≡ 2 → ⊥) → (b.collector.phase ≡ 8 → ⊥) → r ≡ reply b 0 → r ≡ word_step b
-      unfolding word_step
-      words_other z w v q = simp (ne_eqb b.collector.phase 7 x, ne_eqb b.collector.phase 6 y, ← f, t, ne_eqb b.collector.phase 5 z, ne_eqb b.collector.phase 2 w, ne_eqb b.collector.phase 8 v, q)
+    pub words_other : b.collector.phase ≢ 5 → b.collector.phase ≢ 2 → b.collector.phase ≢ 8 → word_step b ≡ None
+    unfolding word_step
+    words_other z w v = simp (ne_eqb b.collector.phase 7 x, ne_eqb b.collector.phase 6 y, ne_eqb b.collector.phase 5 z, ne_eqb b.collector.phase 2 w, ne_eqb b.collector.phase 8 v, either_none (at_word b))
+      where
+        either_none : (t : Bool) → ◌≡◌ {A = Option Reply} (cond t None None) None
+        either_none true = refl
+        either_none false = refl
 
 -- ---- what it comes to
 
--- the phase's rule, or 0
-data Came (b : Box) (r : Reply) : Type 0 where
-  by_rule : r ≡ rule_of b.collector.phase b → Came b r
-  not_done : r ≡ reply b 0 → Came b r
-
 module _ (b : Box) where
-  either : (t : Bool) (r s : Reply) → (t ≡ true → Came b r) → (t ≡ false → Came b s) → Came b (cond t r s)
-  either true r s x y = x refl
-  either false r s x y = y refl
+  -- the phase's rule, or nothing
+  Came : Option Reply → Type 0
+  Came o = IfSome o (λ r. r ≡ rule_of b.collector.phase b)
 
-  picked : (k : ℕ) → eqb b.collector.phase k ≡ true → Came b (rule_of k b)
-  picked k e = by_rule (rule_at b b.collector.phase k (rule_of k b) (eqb-true b.collector.phase k e) refl)
+  either : (t : Bool) (o p : Option Reply) → (t ≡ true → Came o) → (t ≡ false → Came p) → Came (cond t o p)
+  either true o p x y = x refl
+  either false o p x y = y refl
 
-  came : Came b (word_step b)
-  unfolding word_step rule_of
+  picked : (k : ℕ) → eqb b.collector.phase k ≡ true → rule_of k b ≡ rule_of b.collector.phase b
+  picked k e = sym (ap (λ (n : ℕ). rule_of n b) (eqb-true b.collector.phase k e))
+
+  came : Came (word_step b)
+  unfolding word_step rule_of Came
   came =
       either (eqb b.collector.phase 7) _ _ (λ e. picked 7 e) (λ x.
       either (eqb b.collector.phase 6) _ _ (λ e. picked 6 e) (λ y.
       either (at_word b) _ _ (λ t.
       either (eqb b.collector.phase 5) _ _ (λ e. picked 5 e) (λ z.
       either (eqb b.collector.phase 2) _ _ (λ e. picked 2 e) (λ w.
-      either (eqb b.collector.phase 8) _ _ (λ e. picked 8 e) (λ v. not_done refl))))
-      (λ t. not_done refl)))
+      either (eqb b.collector.phase 8) _ _ (λ e. picked 8 e) (λ v. tt))))
+      (λ t. tt)))
 
-  -- 0 is no answer of a step
-  never_0 : (r : Reply) → r ≡ step b → r.answer ≡ 0 → ⊥
-  never_0 r e z = let f : r.answer ≡ (step b).answer = ap (λ (x : Reply). x.answer) e in omega (arith, (step_between b).0)
-
-  module _ (s : sound b ≡ true) where
-    ruled : (r : Reply) → r ≡ rule_of b.collector.phase b → r ≡ step b
-    unfolding step
-    ruled r q = simp (s, q)
-
-    -- an answer other than 0 is the step's
-    pub word_done : (x : Box) (a : ℕ) → reply x a ≡ word_step b → (a ≡ 0 → ⊥) → reply x a ≡ step b
-    word_done x a e n = of (word_step b) refl came
-      where
-        of : (r : Reply) → r ≡ word_step b → Came b r → reply x a ≡ step b
-        of r f (by_rule q) = ruled (reply x a) (e ∙ sym f ∙ q)
-        of r f (not_done q) = absurd (n (ap (λ (y : Reply). y.answer) (e ∙ sym f ∙ q)))
-
-    -- and with 0 nothing was done
-    pub word_left : (x : Box) (a : ℕ) → reply x a ≡ word_step b → a ≡ 0 → x ≡ b
-    word_left x a e z = of (word_step b) refl came
-      where
-        of : (r : Reply) → r ≡ word_step b → Came b r → x ≡ b
-        of r f (by_rule q) = absurd (never_0 (reply x a) (ruled (reply x a) (e ∙ sym f ∙ q)) z)
-        of r f (not_done q) = ap (λ (y : Reply). y.box) (e ∙ sym f ∙ q)
+  -- where there is a reply, it is the step's
+  pub word_done : sound b ≡ true → (r : Reply) → word_step b ≡ Some r → r ≡ step b
+  unfolding step Came
+  word_done s r e = let q : r ≡ rule_of b.collector.phase b = subst Came e came in simp (s, q)

@@ -1,83 +1,35 @@
 // The rule of the phase.
-ghost use Rattle.std.specs.Prelude.{true, ◌≡◌, ◌≤◌};
+ghost use Rattle.std.specs.Prelude.{true, ◌≡◌};
 ghost use Rattle.rules.specs.Box.{reply, sound};
 ghost use Rattle.rules.specs.Collector.{rule_of};
 ghost use Rattle.collector.specs.Decide.{with_grant, Grants};
-ghost use Rattle.lent.specs.Lent.{state_of, lent};
+ghost use Rattle.collector.specs.Answer.{number_of};
+ghost use Rattle.lent.specs.Lent.{box_of, state_in, SameReferences};
 
 use crate::phases::{
     mark_add, mark_next, mark_scan, rest, sweep_clear, sweep_read, sweep_scan, sweep_write,
     sweep_zero,
 };
+use collector::Answer;
+use lent::MemoryUnit;
 
-// The rule of a phase that marks, 0 to 3.
-fn mark_rule(
-    phase: u32,
-    numbers: &mut [u32; 22],
-    switches: &mut [bool; 11],
-    hold: &[u16; 3],
-    words: &[u32],
-    flags: &[bool],
-    addresses: &[u32],
-    sizes: &[u32],
-    links: &mut [u32],
-    marks: &mut [bool],
-    deeps: &[bool],
-) -> u32
-    requires { (sound (lent numbers.old switches.old hold.now words.now flags.now addresses.now sizes.now links.old marks.old deeps.now) ≡ true) × (phase ≡ (state_of numbers.old switches.old hold.now).phase) × (phase ≤ 3) }
-    ensures result_after { with_grant (reply (lent numbers.new switches.new hold.now words.now flags.now addresses.now sizes.now links.new marks.new deeps.now) result) ≡ rule_of phase (lent numbers.old switches.old hold.now words.now flags.now addresses.now sizes.now links.old marks.old deeps.now) }
-    ensures grants { Grants (state_of numbers.old switches.old hold.now).m (state_of numbers.old switches.old hold.now).h (state_of numbers.new switches.new hold.now) result }
+// The rule of the phase, 0 to 8, which is a number since it is lent and may be any. Where it answers 32 the held request is granted, and its tuple is still to be made.
+#[tactic(auto, using(lent::proofs::Columns::sound_columns, lent::proofs::Columns::sound_words))]
+pub fn rule(unit: &mut MemoryUnit<'_>) -> Answer
+    requires { sound (box_of unit.old) ≡ true }
+    ensures same_references { SameReferences unit.old unit.new }
+    ensures ruled { with_grant (reply (box_of unit.new) (number_of result)) ≡ rule_of (state_in unit.old).phase (box_of unit.old) }
+    ensures grants { Grants (state_in unit.old).m (state_in unit.old).h (state_in unit.new) (number_of result) }
 {
-    if phase == 0 {
-        return rest(numbers, switches, hold);
+    match unit.numbers[4] {
+        0 => rest(unit),
+        1 => mark_next(unit),
+        2 => mark_scan(unit),
+        3 => mark_add(unit),
+        4 => sweep_scan(unit),
+        5 => sweep_read(unit),
+        6 => sweep_clear(unit),
+        7 => sweep_write(unit),
+        _ => sweep_zero(unit),
     }
-    if phase == 1 {
-        return mark_next(
-            numbers, switches, hold, words, flags, addresses, sizes, links, marks, deeps,
-        );
-    }
-    if phase == 2 {
-        return mark_scan(
-            numbers, switches, hold, words, flags, addresses, sizes, links,
-        );
-    }
-    mark_add(numbers, switches, hold, sizes, links, marks, deeps)
-}
-
-// The rule of the phase, 0 to 8. Where it answers 32 the held request is granted, and its tuple is still to be made.
-pub fn rule(
-    numbers: &mut [u32; 22],
-    switches: &mut [bool; 11],
-    hold: &[u16; 3],
-    words: &mut [u32],
-    flags: &mut [bool],
-    addresses: &mut [u32],
-    sizes: &[u32],
-    links: &mut [u32],
-    marks: &mut [bool],
-    deeps: &[bool],
-) -> u32
-    requires { sound (lent numbers.old switches.old hold.now words.old flags.old addresses.old sizes.now links.old marks.old deeps.now) ≡ true }
-    ensures result_after { with_grant (reply (lent numbers.new switches.new hold.now words.new flags.new addresses.new sizes.now links.new marks.new deeps.now) result) ≡ rule_of (state_of numbers.old switches.old hold.now).phase (lent numbers.old switches.old hold.now words.old flags.old addresses.old sizes.now links.old marks.old deeps.now) }
-    ensures grants { Grants (state_of numbers.old switches.old hold.now).m (state_of numbers.old switches.old hold.now).h (state_of numbers.new switches.new hold.now) result }
-{
-    let phase = numbers[4];
-    if phase < 4 {
-        return mark_rule(
-            phase, numbers, switches, hold, words, flags, addresses, sizes, links, marks, deeps,
-        );
-    }
-    if phase == 4 {
-        return sweep_scan(numbers, switches, hold, words, flags, sizes, links, marks);
-    }
-    if phase == 5 {
-        return sweep_read(numbers, switches, hold, words, flags, addresses);
-    }
-    if phase == 6 {
-        return sweep_clear(numbers, switches, hold, words, flags);
-    }
-    if phase == 7 {
-        return sweep_write(numbers, switches, hold, words, flags);
-    }
-    sweep_zero(numbers, switches, hold, words, flags)
 }

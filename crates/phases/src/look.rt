@@ -1,78 +1,52 @@
 // The look at the registers, for roots: from register 0 upward, data, nil and marked tuples passed over, none after the one found.
-ghost use Rattle.std.specs.Prelude.{◌≡◌, ◌<◌, length};
+ghost use Rattle.std.specs.Prelude.{◌≡◌, length};
 ghost use Rattle.rules.specs.Limits.{register_count};
-ghost use Rattle.rules.specs.Parts.{Box};
 ghost use Rattle.rules.specs.Collector.{look_from};
 ghost use Rattle.collector.specs.Boxed.{word_of};
 ghost use Rattle.collector.specs.Decide.{found_as};
-ghost use Rattle.lent.specs.Lent.{registers_of};
+ghost use Rattle.lent.specs.Lent.{box_of, state_in};
 ghost use Rattle.phases.specs.Passing.{passed_over};
 
 use collector::Word;
-use lent::register;
-
-// What a look found: the handle that the first register not passed over names, which may be no entry, or nothing.
-#[derive(Clone, Copy)]
-pub struct Root {
-    pub there: bool,
-    pub handle: u32,
-}
+use lent::MemoryUnit;
 
 // Whether a register's word is passed over: it is data or nil, or names a marked tuple.
-fn passed_over(w: Word, h: u32, marks: &[bool]) -> bool
-    requires { length marks.now ≡ h }
-    ensures { (b : Box) → b.h ≡ h → b.directory.marks ≡ marks.now → result ≡ passed_over (word_of w) b }
+#[tactic(auto, using(crate::proofs::Looking::passes_plain, crate::proofs::Looking::passes_marked, crate::proofs::Looking::stops_far), unfolding(lent::specs::Lent::state_of))]
+fn passed_over(unit: &MemoryUnit<'_>, word: Word) -> bool
+    requires { length unit.now.marks.now ≡ (state_in unit.now).h }
+    ensures { result ≡ passed_over (word_of word) (box_of unit.now) }
 {
-    if w.names_tuple() {
-        let handle = w.handle();
-        if handle < h {
-            let i = handle as usize;
-            return marks[i];
-        }
-        return false;
+    if !word.names_tuple() {
+        return true;
     }
-    true
+    let numbers = &*unit.numbers;
+    let marks = &*unit.marks;
+    let handle = word.handle();
+    handle < numbers[1] && marks[handle as usize]
 }
 
-// The first register that is not passed over.
-fn first_root(h: u32, numbers: &[u32; 22], switches: &[bool; 11], marks: &[bool]) -> Root
-    requires { length marks.now ≡ h }
-    ensures { (b : Box) → b.h ≡ h → b.directory.marks ≡ marks.now → b.registers ≡ registers_of numbers.now switches.now → found_as result.there result.handle b ≡ look_from register_count b }
+// The handle that the first register not passed over names, which may be no entry.
+#[tactic(auto, using(crate::proofs::Looking::look_on, crate::proofs::Looking::look_stop, crate::proofs::Looking::look_end))]
+fn first_root(unit: &MemoryUnit<'_>) -> Option<u32>
+    requires { length unit.now.marks.now ≡ (state_in unit.now).h }
+    ensures { found_as result (box_of unit.now) ≡ look_from register_count (box_of unit.now) }
 {
-    let mut r: u16 = 0;
-    while r < 8 {
-        let word = register(r, numbers, switches);
-        if passed_over(word, h, marks) {
-            r += 1;
-        } else {
-            return Root {
-                there: true,
-                handle: word.handle(),
-            };
+    for r in 0..8 {
+        let word = unit.register(r);
+        if !passed_over(unit, word) {
+            return Some(word.handle());
         }
     }
-    Root {
-        there: false,
-        handle: 0,
-    }
+    None
 }
 
-// The first register that is not passed over, where the next list is empty. Else none is looked at.
-pub(crate) fn look(
-    next: u32,
-    h: u32,
-    numbers: &[u32; 22],
-    switches: &[bool; 11],
-    marks: &[bool],
-) -> Root
-    requires { length marks.now ≡ h }
-    ensures { (b : Box) → b.h ≡ h → b.directory.marks ≡ marks.now → b.registers ≡ registers_of numbers.now switches.now → next ≡ 0 → found_as result.there result.handle b ≡ look_from register_count b }
+// The first root, where the next list is empty. Else none is looked for.
+pub(crate) fn look(unit: &MemoryUnit<'_>, next: u32) -> Option<u32>
+    requires { length unit.now.marks.now ≡ (state_in unit.now).h }
+    ensures { next ≡ 0 → found_as result (box_of unit.now) ≡ look_from register_count (box_of unit.now) }
 {
     if next == 0 {
-        return first_root(h, numbers, switches, marks);
+        return first_root(unit);
     }
-    Root {
-        there: false,
-        handle: 0,
-    }
+    None
 }

@@ -3,7 +3,8 @@ use rules::Request;
 
 #[derive(Clone, Copy)]
 pub struct Place {
-    // 0 nothing is read yet, 1 opened and playing, 2 only reading after a 10, 3 at the end, 4 over.
+    // 0 nothing is read yet, 1 opened and playing, 2 only reading after a 10, 3 at the end, 4 over, as all above. A number, and no enum:
+    // the call `player::play` takes any place, and its promise speaks of any stage.
     pub stage: u32,
     // How many records were read; it stays at 4,294,967,296 once there.
     pub count: u64,

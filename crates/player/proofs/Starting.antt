@@ -1,23 +1,27 @@
 -- The start of a string, and any call: what each case comes to. Assumes nothing.
-use Prim.Native.Nat.{ℕ, ◌+◌, ◌≤◌, ◌<◌, min}
+use Prim.Native.Nat.{ℕ, ◌+◌, ◌≤◌, ◌<◌}
 use mathlib.Core.Bool.{Bool, true, false, cond}
-use mathlib.Core.List.{List, [], ◌∷◌, ◌++◌, append-nil}
+use mathlib.Core.List.{List, [], ◌∷◌, append-nil}
 use mathlib.Core.Logic.{⊎_elim}
 use mathlib.Core.Path.{◌≡◌, refl, sym, ◌∙◌, ap, subst}
 use native.Mathlib.Omega.{arith}
 use lib.Dec.{eqb}
-use lib.ListN.{length, get_or, take, drop}
+use lib.ListN.{length, get_or, drop}
 use lib.Seq.{sets}
 use borrow.Author.Tests.{lt-ltb, le-ltb, eq-eqb, ne_eqb}
 use Rattle.rules.specs.Parts.{Box}
 use Rattle.rules.specs.Box.{Reply, reply}
 use Rattle.rules.specs.Open.{opening}
 use Rattle.rules.proofs.Demand1.{demand1}
-use Rattle.lent.specs.Lent.{state_of, lent}
+use Rattle.std.specs.declared.result.Result.{Result}
+use Rattle.std.specs.declared.result.Result.TheVariants.{Ok}
+use Rattle.record.specs.declared.number.Fault.{Fault}
+use Rattle.lent.specs.declared.unit.MemoryUnit.{MemoryUnit}
+use Rattle.lent.specs.Lent.{state_in, box_of}
 use Rattle.record.specs.declared.entry.Entry.{Entry}
-use Rattle.record.specs.declared.entry.Entry.TheVariants.{Whole, Faulty}
-use Rattle.record.specs.Fields.{Item, whole, fault, editions, entry}
-use Rattle.record.specs.Found.{place_of, as_entry, fault_of}
+use Rattle.record.specs.Fields.{whole, fault, editions, entry}
+use Rattle.record.specs.Found.{place_of, told, as_entry}
+use Rattle.record.proofs.Entries.{is_whole}
 use Rattle.record.proofs.Laws.{at_end, entry_behind}
 use Rattle.record.proofs.Refusals.{either_way, entry_fault_named}
 use Rattle.pieces.specs.declared.place.Place.{Place}
@@ -26,8 +30,8 @@ use Rattle.pieces.specs.Pieces.{at, over, begun_at, may_come, piece, first_of, o
 use Rattle.turns.specs.Outcome.{Outcome, leaves, outcome}
 use Rattle.turns.specs.Parts.{part_of, put_back, Opens}
 use Rattle.player.specs.Promises.{played_at, Says, Refuses, PlaysPart, ComesTo, Plays}
-use Rattle.turns.proofs.Parts.{SameShape, same_shape, first_back, lent_first, parts_shape, parts_back, back_all, first_m, first_h, back_m, back_h}
-use Rattle.player.proofs.Staying.{piece_keeps}
+use Rattle.turns.proofs.Parts.{SameShape, Parted, same_shape, first_back, back_all, first_m, first_h, back_m, back_h}
+use Rattle.player.proofs.Staying.{Sized, sized_m, sized_h, sized_shape, piece_keeps}
 
 -- ---- what is played at a place
 
@@ -76,17 +80,13 @@ module _ (last : Bool) (a : ℕ) (o o1 : List ℕ) (p p1 : Place) (used n : ℕ)
   unfolding played_at part_of
   refuses f = record { none_used = s.none_used; comes_to = λ bs b. s.comes_to bs b ∙ ap (outcome o 0) (sym (f bs b)); all_lent = λ b. rw s.place_is }
 
-  pub refuses_other : (a ≡ 20 → ⊥) → Refuses last a o o1 p p1 used n w
-  unfolding not_begun may_come
-  refuses_other h = refuses (λ bs b. rw (ne_eqb a 20 h))
+  pub refuses_now : may_come last a ≡ false → Refuses last a o o1 p p1 used n w
+  unfolding not_begun
+  refuses_now h = refuses (λ bs b. rw h)
 
-  pub refuses_last : a ≡ 20 → last ≡ true → Refuses last a o o1 p p1 used n w
-  unfolding not_begun may_come
-  refuses_last h l = refuses (λ bs b. rw (eq-eqb a 20 h, l))
-
-pub refuses_later : (last : Bool) (a : ℕ) (o : List ℕ) (p : Place) → p.stage ≡ 0 → a ≡ 20 → last ≡ false → Refuses last a o o p p 0 0 true
-unfolding not_begun may_come
-refuses_later last a o p s h l = record { none_used = refl; comes_to = λ bs b. rw (eq-eqb a 20 h, l) (no_lines o b p bs true); all_lent = λ b. at_the_start p b s }
+pub refuses_later : (last : Bool) (a : ℕ) (o : List ℕ) (p : Place) → p.stage ≡ 0 → may_come last a ≡ true → Refuses last a o o p p 0 0 true
+unfolding not_begun
+refuses_later last a o p s h = record { none_used = refl; comes_to = λ bs b. rw h (no_lines o b p bs true); all_lent = λ b. at_the_start p b s }
 
 -- ---- the start
 
@@ -103,11 +103,6 @@ starts_whole : (last : Bool) (bs o : List ℕ) (b : Box) (p : Place) (ns rest : 
 unfolding begin_piece begin
 starts_whole last bs o b p ns rest h e = rw (le-ltb (length o) 3 h, e, begin)
 
--- the start that the code found faulty
-pub start_fault : (bs : List ℕ) (x : Item) → entry editions bs ≡ x → (e : Entry) → e ≡ as_entry (length bs) x → (a : ℕ) → e ≡ Faulty a → entry editions bs ≡ fault (fault_of e)
-start_fault bs (fault b) i e u a w = let z : Faulty b ≡ Faulty a = sym u ∙ w in let y : b ≡ a = cc in i ∙ rw (w, y)
-start_fault bs (whole ns rest) i e u a w = let z : Whole (get_or ns 0 0) (get_or ns 1 0) (get_or ns 2 0) (get_or ns 3 0) (place_of (length bs) rest) ≡ Faulty a = sym u ∙ w in absurd (let v : ◌≡◌ {A = ℕ} 0 1 = cc in omega arith)
-
 pub fault_small : (bs : List ℕ) (a : ℕ) → entry editions bs ≡ fault a → a < 100
 fault_small bs a e = omega (arith, entry_fault_named editions bs a e)
 
@@ -123,13 +118,11 @@ pub record StartAt (bs : List ℕ) (m h behind : ℕ) : Type 0 where
   pub h_is : get_or ns 2 0 ≡ h
   pub inside : behind ≤ length bs
 
-pub start_whole : (bs : List ℕ) (x : Item) → entry editions bs ≡ x → (e : Entry) → e ≡ as_entry (length bs) x → (k m h c behind : ℕ) → e ≡ Whole k m h c behind → StartAt bs m h behind
-start_whole bs (fault y) i e u k m h c behind w = let z : Faulty y ≡ Whole k m h c behind = sym u ∙ w in absurd (let v : ◌≡◌ {A = ℕ} 0 1 = cc in omega arith)
-start_whole bs (whole ns rest) i e u k m h c behind w =
-    let z : Whole (get_or ns 0 0) (get_or ns 1 0) (get_or ns 2 0) (get_or ns 3 0) (place_of (length bs) rest) ≡ Whole k m h c behind = sym u ∙ w in
-    let p : place_of (length bs) rest ≡ behind = cc in
-    let d : rest ≡ drop behind bs = (at_end bs rest (entry_behind editions bs ns rest i)).is_drop ∙ ap (λ (n : ℕ). drop n bs) p in
-    record { ns = ns; is = i ∙ ap (whole ns) d; m_is = cc; h_is = cc; inside = omega arith }
+pub start_whole : (bs : List ℕ) (x : Result Entry Fault) → told x ≡ as_entry (length bs) (entry editions bs) → (e : Entry) → x ≡ Ok e → StartAt bs e.a e.b e.next
+start_whole bs x i e u =
+    let w = is_whole (length bs) (entry editions bs) x i e u in
+    let d : w.rest ≡ drop (place_of (length bs) w.rest) bs = (at_end bs w.rest (entry_behind editions bs w.ns w.rest w.is)).is_drop in
+    rw (← w.fields) record { ns = w.ns; is = w.is ∙ ap (whole w.ns) d; m_is = refl; h_is = refl; inside = omega arith }
 
 -- the answer of an opening is 0 or 10
 pub open_small : (m h : ℕ) (b : Box) → (open_first m h b).answer < 100
@@ -151,26 +144,19 @@ starts_open last bs o o1 b b1 p p1 m h k a n l s c e q =
 
 -- ---- a part of what is lent
 
-pub part_played : (last : Bool) (bs o o1 : List ℕ) (p p1 : Place) (used n : ℕ) (w : Bool) (b x : Box) (m h : ℕ) → b.m ≡ m → b.h ≡ h → SameShape x (first_of m h b) → 0 < p.stage → used ≤ length bs → leaves o1 n x p1 (drop used bs) w ≡ outcome o 0 (play_piece last (length o) p bs (first_of m h b)) → PlaysPart bs o o1 b (put_back x b) p1 used n w (play_piece last (length o) p bs (first_of b.m b.h b))
-part_played last bs o o1 p p1 used n w b x m h em eh s l u e =
-    let k = piece_keeps last (length o) p bs (first_of m h b) l in
-    let box : x ≡ (play_piece last (length o) p bs (first_of m h b)).box = ap (λ (r : Outcome). r.box) e in
-    let xm : x.m ≡ m = ap (λ (y : Box). y.m) box ∙ k.1.0 ∙ first_m m h b ∙ em in
-    let xh : x.h ≡ h = ap (λ (y : Box). y.h) box ∙ k.1.1 ∙ first_h m h b ∙ eh in
-    let f : first_of (put_back x b).m (put_back x b).h (put_back x b) ≡ x = ap (λ (i : ℕ). first_of i (put_back x b).h (put_back x b)) (back_m x b ∙ xm) ∙ ap (λ (j : ℕ). first_of m j (put_back x b)) (back_h x b ∙ xh) ∙ first_back m h x b s in
-    let g : first_of b.m b.h b ≡ first_of m h b = ap (λ (i : ℕ). first_of i b.h b) em ∙ ap (λ (j : ℕ). first_of m j b) eh in
-    record { used_in = u; comes_to = rw (f, g) e; kept = rw f }
+part_played : (last : Bool) (bs o o1 : List ℕ) (p p1 : Place) (used n : ℕ) (w : Bool) (b x : Box) → SameShape x (first_of b.m b.h b) → 0 < p.stage → used ≤ length bs → leaves o1 n x p1 (drop used bs) w ≡ outcome o 0 (play_piece last (length o) p bs (first_of b.m b.h b)) → PlaysPart bs o o1 b (put_back x b) p1 used n w (play_piece last (length o) p bs (first_of b.m b.h b))
+part_played last bs o o1 p p1 used n w b x s l u e =
+    let k = piece_keeps last (length o) p bs (first_of b.m b.h b) l in
+    let box : x ≡ (play_piece last (length o) p bs (first_of b.m b.h b)).box = ap (λ (r : Outcome). r.box) e in
+    let xm : x.m ≡ b.m = ap (λ (y : Box). y.m) box ∙ sized_m (first_of b.m b.h b) (play_piece last (length o) p bs (first_of b.m b.h b)).box k.1 ∙ first_m b.m b.h b in
+    let xh : x.h ≡ b.h = ap (λ (y : Box). y.h) box ∙ sized_h (first_of b.m b.h b) (play_piece last (length o) p bs (first_of b.m b.h b)).box k.1 ∙ first_h b.m b.h b in
+    let f : first_of (put_back x b).m (put_back x b).h (put_back x b) ≡ x = ap (λ (i : ℕ). first_of i (put_back x b).h (put_back x b)) (back_m x b ∙ xm) ∙ ap (λ (j : ℕ). first_of b.m j (put_back x b)) (back_h x b ∙ xh) ∙ first_back b.m b.h x b s in
+    record { used_in = u; comes_to = rw f e; kept = rw f }
 
--- the columns in parts, each as long when it comes back
-module _ (ns ns1 : List ℕ) (sw sw1 : List Bool) (hd hd1 ws ws1 : List ℕ) (fs fs1 : List Bool) (ads ads1 ss ss1 ls ls1 : List ℕ) (ms ms1 ds ds1 : List Bool) (m h w f a z l k d : ℕ) (ew : w ≡ min m (length ws)) (ef : f ≡ min m (length fs)) (ea : a ≡ min h (length ads)) (ez : z ≡ min h (length ss)) (el : l ≡ min h (length ls)) (ek : k ≡ min h (length ms)) (ed : d ≡ min h (length ds)) (kw : length ws1 ≡ length (take w ws)) (kf : length fs1 ≡ length (take f fs)) (ka : length ads1 ≡ length (take a ads)) (kz : length ss1 ≡ length (take z ss)) (kl : length ls1 ≡ length (take l ls)) (kk : length ms1 ≡ length (take k ms)) (kd : length ds1 ≡ length (take d ds)) where
-  pub plays_parts : m ≡ get_or ns 0 0 → h ≡ get_or ns 1 0 → (last : Bool) (bs o o1 : List ℕ) (p p1 : Place) (used n : ℕ) (waits : Bool) → 0 < p.stage → (used ≤ length bs) × (leaves o1 n (lent ns1 sw1 hd1 ws1 fs1 ads1 ss1 ls1 ms1 ds1) p1 (drop used bs) waits ≡ outcome o 0 (play_piece last (length o) p bs (lent ns sw hd (take w ws) (take f fs) (take a ads) (take z ss) (take l ls) (take k ms) (take d ds)))) → PlaysPart bs o o1 (lent ns sw hd ws fs ads ss ls ms ds) (lent ns1 sw1 hd1 (ws1 ++ drop w ws) (fs1 ++ drop f fs) (ads1 ++ drop a ads) (ss1 ++ drop z ss) (ls1 ++ drop l ls) (ms1 ++ drop k ms) (ds1 ++ drop d ds)) p1 used n waits (play_piece last (length o) p bs (first_of (lent ns sw hd ws fs ads ss ls ms ds).m (lent ns sw hd ws fs ads ss ls ms ds).h (lent ns sw hd ws fs ads ss ls ms ds)))
-  unfolding state_of
-  plays_parts em eh last bs o o1 p p1 used n waits s c =
-      subst (λ (b : Box). PlaysPart bs o o1 (lent ns sw hd ws fs ads ss ls ms ds) b p1 used n waits (play_piece last (length o) p bs (first_of (lent ns sw hd ws fs ads ss ls ms ds).m (lent ns sw hd ws fs ads ss ls ms ds).h (lent ns sw hd ws fs ads ss ls ms ds))))
-      (sym (parts_back ns ns1 sw sw1 hd hd1 ws ws1 fs fs1 ads ads1 ss ss1 ls ls1 ms ms1 ds ds1 m h w f a z l k d ew ef ea ez el ek ed kw kf ka kz kl kk kd))
-      (part_played last bs o o1 p p1 used n waits (lent ns sw hd ws fs ads ss ls ms ds) (lent ns1 sw1 hd1 ws1 fs1 ads1 ss1 ls1 ms1 ds1) m h (sym em) (sym eh)
-      (parts_shape ns ns1 sw sw1 hd hd1 ws ws1 fs fs1 ads ads1 ss ss1 ls ls1 ms ms1 ds ds1 m h w f a z l k d ew ef ea ez el ek ed kw kf ka kz kl kk kd) s c.0
-      (c.1 ∙ ap (λ (b : Box). outcome o 0 (play_piece last (length o) p bs b)) (lent_first ns ns1 sw sw1 hd hd1 ws ws1 fs fs1 ads ads1 ss ss1 ls ls1 ms ms1 ds ds1 m h w f a z l k d ew ef ea ez el ek ed)))
+pub plays_parts : (u : MemoryUnit) {part came joined : Box} → Parted u (state_in u).m (state_in u).h part came joined → (last : Bool) (bs o o1 : List ℕ) (p p1 : Place) (used n : ℕ) (w : Bool) → 0 < p.stage → (used ≤ length bs) × (leaves o1 n came p1 (drop used bs) w ≡ outcome o 0 (play_piece last (length o) p bs part)) → PlaysPart bs o o1 (box_of u) joined p1 used n w (play_piece last (length o) p bs (first_of (state_in u).m (state_in u).h (box_of u)))
+plays_parts u {part} {came} {joined} t last bs o o1 p p1 used n w s c =
+    subst (λ (b : Box). PlaysPart bs o o1 (box_of u) b p1 used n w (play_piece last (length o) p bs (first_of (state_in u).m (state_in u).h (box_of u)))) (sym t.joined_is)
+    (part_played last bs o o1 p p1 used n w (box_of u) came t.shape s c.0 (c.1 ∙ ap (λ (b : Box). outcome o 0 (play_piece last (length o) p bs b)) t.part_is))
 
 -- ---- any call
 
@@ -192,9 +178,10 @@ call_part last bs o o1 b b1 p p1 used n w l t c =
     let f : played_at p1 b1 ≡ first_of b1.m b1.h b1 = when_opened p1 b1 k.1 (k.0 ∙ t) in
     rw (when_opened p b l t, ne_eqb p.stage 0 (λ e. omega arith)) (record { used_in = c.used_in; comes_to = rw f c.comes_to; kept = rw f c.kept })
 
-pub call_whole : (last : Bool) (bs o o1 : List ℕ) (b b1 : Box) (p p1 : Place) (used n : ℕ) (w : Bool) → 0 < p.stage → p.opened ≡ false → SameShape b1 b → (used ≤ length bs) × (leaves o1 n b1 p1 (drop used bs) w ≡ outcome o 0 (play_piece last (length o) p bs b)) → Plays last p bs o o1 b b1 p1 used n w
+pub call_whole : (last : Bool) (bs o o1 : List ℕ) (b b1 : Box) (p p1 : Place) (used n : ℕ) (w : Bool) → 0 < p.stage → p.opened ≡ false → (used ≤ length bs) × (leaves o1 n b1 p1 (drop used bs) w ≡ outcome o 0 (play_piece last (length o) p bs b)) → Plays last p bs o o1 b b1 p1 used n w
 unfolding play_call
-call_whole last bs o o1 b b1 p p1 used n w l t s c =
+call_whole last bs o o1 b b1 p p1 used n w l t c =
+    let s : Sized b b1 = subst (Sized b) (sym (ap (λ (r : Outcome). r.box) c.1)) (piece_keeps last (length o) p bs b l).1 in
     let k = place_kept last bs o o1 b b1 p p1 (drop used bs) n w l c.1 in
     let f : played_at p1 b1 ≡ b1 = when_not_opened p1 b1 k.1 (k.0 ∙ t) in
-    rw (when_not_opened p b l t, ne_eqb p.stage 0 (λ e. omega arith)) (record { used_in = c.0; comes_to = rw f c.1; kept = rw f (sym (back_all b1 b s)) })
+    rw (when_not_opened p b l t, ne_eqb p.stage 0 (λ e. omega arith)) (record { used_in = c.0; comes_to = rw f c.1; kept = rw f (sym (back_all b1 b (sized_shape b b1 s))) })

@@ -50,9 +50,6 @@ kind_or_none k = go (ltb k 12) refl
     go true e = inl (ltb-true k 12 e)
     go false e = inr (no_kind k (ltb-false k 12 e))
 
-pub none_of_these : (k : ℕ) → Each (λ j. k ≡ j → ⊥) 0 12 → kinds k ≡ none
-none_of_these k ns = ⊎_elim (λ h. absurd (each (λ j. k ≡ j → ⊥) 0 12 ns k (omega arith) h refl)) (λ e. e) (kind_or_none k)
-
 -- ---- a row, from how many fields it has and the limit of the last
 
 abbrev pub shape : ℕ → ℕ → Option (List ℕ)
@@ -62,19 +59,9 @@ shape (suc (suc zero)) l = some (most16 ∷ l ∷ [])
 shape (suc (suc (suc zero))) l = some (most16 ∷ most16 ∷ most16 ∷ [])
 shape (suc (suc (suc (suc m)))) l = none
 
-shaped : (k : ℕ) → kinds k ≡ shape (fields_in (kinds k)) (last_in (kinds k))
+pub shaped : (k : ℕ) → kinds k ≡ shape (fields_in (kinds k)) (last_in (kinds k))
 unfolding kinds row
 shaped k =
     ⊎_elim (λ h. each (λ j. kinds j ≡ shape (fields_in (kinds j)) (last_in (kinds j))) 0 12 (refl, (refl, (refl, (refl, (refl, (refl, (refl, (refl, (refl, (refl, (refl, (refl, tt)))))))))))) k (omega arith) h)
     (λ e. rw e)
     (kind_or_none k)
-
-pub kind_shape : (k many limit : ℕ) → many ≡ fields_in (kinds k) → limit ≡ last_in (kinds k) → (n : ℕ) → many ≡ n → kinds k ≡ shape n limit
-kind_shape k many limit m l n e = rw (← e, m, l) (shaped k)
-
-pub no_shape : (k many : ℕ) → many ≡ fields_in (kinds k) → (many ≡ 1 → ⊥) → (many ≡ 2 → ⊥) → (many ≡ 3 → ⊥) → kinds k ≡ none
-no_shape k zero m n1 n2 n3 = kind_shape k zero (last_in (kinds k)) m refl zero refl
-no_shape k (suc zero) m n1 n2 n3 = absurd (n1 refl)
-no_shape k (suc (suc zero)) m n1 n2 n3 = absurd (n2 refl)
-no_shape k (suc (suc (suc zero))) m n1 n2 n3 = absurd (n3 refl)
-no_shape k (suc (suc (suc (suc j)))) m n1 n2 n3 = kind_shape k (suc (suc (suc (suc j)))) (last_in (kinds k)) m refl (suc (suc (suc (suc j)))) refl

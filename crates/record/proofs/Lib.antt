@@ -1,4 +1,3 @@
-pub mod Requests
 pub mod Laws
 pub mod Groups
 pub mod Entries
@@ -8,9 +7,8 @@ pub mod Rounds
 pub mod Strings
 pub mod Prefixes
 pub mod Theorems
-pub mod WritingTables
+pub mod Readings
 pub mod WritingNumbers
 pub mod WritingEntries
 pub mod WritingRecords
 pub mod WritingAll
-pub mod Readings

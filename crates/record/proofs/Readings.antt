@@ -9,20 +9,22 @@ use native.Mathlib.Omega.{arith}
 use native.Mathlib.Numerals.{add-one}
 use native.Mathlib.Nat.{add-zero, zero-add}
 use lib.Dec.{leb, eqb}
-use lib.ListN.{length, get_or, take, drop, set, length-append, length-drop, take-append-drop, drop_of_length-le}
-use lib.Seq.{drop-cons, take_at, drop-append-add, drop-drop, length-take-le, sets, sets-eq}
+use lib.ListN.{length, get_or, take, drop, length-append, length-drop, take-append-drop}
+use lib.Seq.{take_at, drop-append-add, drop-drop, length-take-le}
 use borrow.Author.Tests.{leb-true, eq-eqb, ne_eqb, le-leb, lt-leb}
+use Rattle.std.specs.declared.result.Result.{Result}
+use Rattle.std.specs.declared.result.Result.TheVariants.{Ok, Err}
+use Rattle.record.specs.declared.number.Fault.{Fault}
 use Rattle.record.specs.declared.entry.Entry.{Entry}
-use Rattle.record.specs.declared.entry.Entry.TheVariants.{Whole, Faulty}
-use Rattle.record.specs.declared.reading.Turn.{Turn}
-use Rattle.record.specs.Number.{Number, found, refused, number, too_large, bytes_after, not_understood}
-use Rattle.record.specs.Fields.{Item, whole, fault, most16, most32, field, fields, named, entry, row, kind_table, kinds, editions}
-use Rattle.record.specs.Reading.{Reading, reading, item_before, nothing_behind, ending, records, read, read_into, all_numbers}
+use Rattle.record.specs.declared.reading.Place.{Place}
+use Rattle.record.specs.Number.{Number, found, refused, number, not_understood}
+use Rattle.record.specs.Fields.{whole, fault, most16, most32, field, fields, named, entry, row, kind_table, kinds, editions}
+use Rattle.record.specs.Reading.{Reading, reading, item_before, ending, records, read, read_into, all_numbers}
 use Rattle.record.specs.Promises.{Reads}
-use Rattle.record.specs.Found.{place_of, as_entry, fault_of}
-use Rattle.record.specs.Turns.{size_of, put_at, Last, last, last_of, at_last, stopped, turns_left, Fit, Turned}
+use Rattle.record.specs.Found.{number_of, place_of, told, as_entry}
+use Rattle.record.proofs.Entries.{drop_place, is_whole, is_fault}
+use Rattle.record.specs.Turns.{size_of, put_at, Last, last, last_of, at_last, Fit, GoesOn}
 use Rattle.record.proofs.Laws.{Behind, number_behind, field_behind, fault_not_whole, joined_whole, fields_found, fields_refused, entry_found, entry_refused, entry_behind, records_fault, records_end, records_item}
-use Rattle.record.proofs.Entries.{drop_place}
 
 -- ---- the numbers of an entry
 
@@ -127,39 +129,19 @@ module _ (table : ℕ → Option (List ℕ)) (bs : List ℕ) (at : ℕ) where
         inside = omega arith;
       }
 
-  entry_stands : ((k : ℕ) (ls : List ℕ) → table k ≡ some ls → length ls ≤ 3) → (x : Entry) → x ≡ as_entry (length bs) (entry table (drop at bs))
-      → (k a b c next : ℕ) → x ≡ Whole k a b c next → Stands table bs at k a b c next
-  entry_stands small x e k a b c next u = go (entry table (drop at bs)) refl
-    where
-      go : (i : Item) → entry table (drop at bs) ≡ i → Stands table bs at k a b c next
-      go (whole ns rest) p =
-          let s = entry_size table (drop at bs) ns rest p in
-          let m : length ns ≤ 4 = omega (arith, s.numbers, small (get_or ns 0 0) s.limits s.known) in
-          let z : Whole (get_or ns 0 0) (get_or ns 1 0) (get_or ns 2 0) (get_or ns 3 0) (place_of (length bs) rest) ≡ Whole k a b c next = ap (as_entry (length bs)) (sym p) ∙ sym e ∙ u in
-          let z0 : get_or ns 0 0 ≡ k = cc in
-          let z1 : get_or ns 1 0 ≡ a = cc in
-          let z2 : get_or ns 2 0 ≡ b = cc in
-          let z3 : get_or ns 3 0 ≡ c = cc in
-          let z4 : place_of (length bs) rest ≡ next = cc in
-          rw (← z0, ← z1, ← z2, ← z3, ← z4) (stands_by ns rest p s (entry_behind table (drop at bs) ns rest p) m)
-      go (fault f) p =
-          let z : Faulty f ≡ Whole k a b c next = ap (as_entry (length bs)) (sym p) ∙ sym e ∙ u in
-          absurd (let w : ◌≡◌ {A = ℕ} 0 1 = cc in omega arith)
+  entry_stands : ((k : ℕ) (ls : List ℕ) → table k ≡ some ls → length ls ≤ 3) → (x : Result Entry Fault) → told x ≡ as_entry (length bs) (entry table (drop at bs))
+      → (e : Entry) → x ≡ Ok e → Stands table bs at e.kind e.a e.b e.c e.next
+  entry_stands small x i e u =
+      let w = is_whole (length bs) (entry table (drop at bs)) x i e u in
+      let s = entry_size table (drop at bs) w.ns w.rest w.is in
+      let m : length w.ns ≤ 4 = omega (arith, s.numbers, small (get_or w.ns 0 0) s.limits s.known) in
+      rw (← w.fields) (stands_by w.ns w.rest w.is s (entry_behind table (drop at bs) w.ns w.rest w.is) m)
 
-  pub entry_faulty : (x : Entry) → x ≡ as_entry (length bs) (entry table (drop at bs)) → (f : ℕ) → x ≡ Faulty f → entry table (drop at bs) ≡ fault (fault_of x)
-  entry_faulty x e f u = go (entry table (drop at bs)) refl
-    where
-      go : (i : Item) → entry table (drop at bs) ≡ i → i ≡ fault (fault_of x)
-      go (whole ns rest) p =
-          let z : Whole (get_or ns 0 0) (get_or ns 1 0) (get_or ns 2 0) (get_or ns 3 0) (place_of (length bs) rest) ≡ Faulty f = ap (as_entry (length bs)) (sym p) ∙ sym e ∙ u in
-          absurd (let w : ◌≡◌ {A = ℕ} 0 1 = cc in omega arith)
-      go (fault g) p = let z : x ≡ Faulty g = e ∙ ap (as_entry (length bs)) p in rw z
+pub record_stands : (bs : List ℕ) (at : ℕ) (x : Result Entry Fault) → told x ≡ as_entry (length bs) (entry kinds (drop at bs)) → (e : Entry) → x ≡ Ok e → Stands kinds bs at e.kind e.a e.b e.c e.next
+record_stands bs at x i e u = entry_stands kinds bs at (λ j ls h. (kinds_fields j ls h).1) x i e u
 
-pub record_stands : (bs : List ℕ) (at : ℕ) (x : Entry) → x ≡ as_entry (length bs) (entry kinds (drop at bs)) → (k a b c next : ℕ) → x ≡ Whole k a b c next → Stands kinds bs at k a b c next
-record_stands bs at x e k a b c next u = entry_stands kinds bs at (λ j ls h. (kinds_fields j ls h).1) x e k a b c next u
-
-pub head_stands : (bs : List ℕ) (x : Entry) → x ≡ as_entry (length bs) (entry editions bs) → (k a b c next : ℕ) → x ≡ Whole k a b c next → Stands editions bs 0 k a b c next
-head_stands bs x e k a b c next u = entry_stands editions bs 0 (λ j ls h. omega (arith, editions_two j ls h)) x e k a b c next u
+pub head_stands : (bs : List ℕ) (x : Result Entry Fault) → told x ≡ as_entry (length bs) (entry editions bs) → (e : Entry) → x ≡ Ok e → Stands editions bs 0 e.kind e.a e.b e.c e.next
+head_stands bs x i e u = entry_stands editions bs 0 (λ j ls h. omega (arith, editions_two j ls h)) x i e u
 
 -- ---- numbers put from a place on
 
@@ -184,31 +166,6 @@ put_more old n ms ns h =
     ∙ ap (λ (r : List ℕ). p ++ ns ++ r) d
     ∙ ap (λ (r : List ℕ). r ++ drop (n + length (ms ++ ns)) old) (append_assoc (take n old) ms ns)
 
--- what stores leave
-put_stored : (old : List ℕ) (n : ℕ) (ns : List ℕ) → n + length ns ≤ length old → sets old n ns ≡ put_at old n ns
-unfolding put_at
-put_stored old n ns h = sets-eq ns old n h
-
--- two, three and four stores, as the code makes them
-module _ (old : List ℕ) (n size k a b c : ℕ) (fits : n + size ≤ length old) where
-  pub put_two : size ≡ 2 → set (set old n k) (n + 1) a ≡ put_at old n (take size (k ∷ a ∷ b ∷ c ∷ []))
-  put_two e =
-      let p : n + 1 ≡ suc n = omega arith in
-      rw (e, p) (put_stored old n (k ∷ a ∷ []) (omega arith))
-
-  pub put_three : size ≡ 3 → set (set (set old n k) (n + 1) a) (n + 2) b ≡ put_at old n (take size (k ∷ a ∷ b ∷ c ∷ []))
-  put_three e =
-      let p : n + 1 ≡ suc n = omega arith in
-      let q : n + 2 ≡ suc (suc n) = omega arith in
-      rw (e, p, q) (put_stored old n (k ∷ a ∷ b ∷ []) (omega arith))
-
-  pub put_four : size ≡ 4 → set (set (set (set old n k) (n + 1) a) (n + 2) b) (n + 3) c ≡ put_at old n (take size (k ∷ a ∷ b ∷ c ∷ []))
-  put_four e =
-      let p : n + 1 ≡ suc n = omega arith in
-      let q : n + 2 ≡ suc (suc n) = omega arith in
-      let r : n + 3 ≡ suc (suc (suc n)) = omega arith in
-      rw (e, p, q, r) (put_stored old n (k ∷ a ∷ b ∷ c ∷ []) (omega arith))
-
 -- ---- what a call comes to, before and after a turn
 
 nothing_more : (ns : List ℕ) (n a : ℕ) → last_of ns n (reading [] a) ≡ last ns n a
@@ -222,115 +179,69 @@ one_more old n ms r h =
     let l : n + length ms + length ns ≡ n + length (ms ++ ns) = omega (arith, length-append ms ns) in
     rw (put_more old n ms ns h, l)
 
-going_on : (bs ns : List ℕ) (t : Turn) → t.going ≡ true → at_last bs ns t ≡ last_of ns t.n (records t.count (drop t.at bs))
-unfolding at_last
-going_on bs ns t g = rw g
-
-abbrev pub going_from : ℕ → ℕ → ℕ → Turn
-going_from at n count = record { going = true; at = at; n = n; count = count; answer = 0 }
-
 -- numbers that were put, and what comes behind them
-from_item : (bs old : List ℕ) (n : ℕ) (ms : List ℕ) (next count : ℕ) → n + length ms ≤ length old
-    → at_last bs (put_at old n ms) (going_from next (n + length ms) count) ≡ last_of old n (item_before ms (records count (drop next bs)))
-from_item bs old n ms next count h =
-    going_on bs (put_at old n ms) (going_from next (n + length ms) count) refl ∙ one_more old n ms (records count (drop next bs)) h
+from_item : (bs old : List ℕ) (n : ℕ) (ms : List ℕ) (next m count : ℕ) → m ≡ n + length ms → m ≤ length old
+    → at_last bs (put_at old n ms) record { at = next; n = m; count = count } ≡ last_of old n (item_before ms (records count (drop next bs)))
+from_item bs old n ms next m count e h = rw e (one_more old n ms (records count (drop next bs)) (omega arith))
 
--- a turn that ends the reading
-stops : (bs ns : List ℕ) (t : Turn) (a : ℕ) → t.going ≡ true → records t.count (drop t.at bs) ≡ reading [] a → at_last bs ns (stopped t a) ≡ at_last bs ns t
-unfolding at_last
-stops bs ns t a g e = sym (going_on bs ns t g ∙ ap (last_of ns t.n) e ∙ nothing_more ns t.n a)
-
-no_turns : (bs : List ℕ) (t : Turn) (a : ℕ) → t.going ≡ true → turns_left bs (stopped t a) < turns_left bs t
-unfolding turns_left
-no_turns bs t a g = rw g (omega arith)
-
-turn_stops : (bs ns : List ℕ) (t : Turn) (a : ℕ) → Fit bs ns t → t.going ≡ true → records t.count (drop t.at bs) ≡ reading [] a → Turned bs ns ns t (stopped t a)
-turn_stops bs ns t a f g e =
-    record { end_kept = stops bs ns t a g e; fit = record { room = f.room; inside = f.inside; few = f.few; fewer = f.fewer }; less = no_turns bs t a g }
-
--- what an end answers
-module _ (bs : List ℕ) (next told count : ℕ) where
-  pub ending_more : told ≡ count → next < length bs → bytes_after ≡ ending count (0 ∷ told ∷ []) (drop next bs)
-  unfolding ending nothing_behind
-  ending_more e h = rw (eq-eqb told count e, drop-cons bs next 0 h)
-
-  pub ending_last : told ≡ count → length bs ≤ next → 0 ≡ ending count (0 ∷ told ∷ []) (drop next bs)
-  unfolding ending nothing_behind
-  ending_last e h = rw (eq-eqb told count e, drop_of_length-le bs h)
-
-  pub ending_wrong : (told ≡ count → ⊥) → too_large ≡ ending count (0 ∷ told ∷ []) (drop next bs)
-  unfolding ending
-  ending_wrong n = rw (ne_eqb told count n)
+-- the reading ends at a place
+stops : (bs ns : List ℕ) (p : Place) (a : ℕ) → records p.count (drop p.at bs) ≡ reading [] a → last ns p.n a ≡ at_last bs ns p
+stops bs ns p a e = rw e (sym (nothing_more ns p.n a))
 
 -- a refused record
-pub turn_refused : (bs ns : List ℕ) (t : Turn) → Fit bs ns t → t.going ≡ true → (x : Entry) → x ≡ as_entry (length bs) (entry kinds (drop t.at bs)) → (f : ℕ) → x ≡ Faulty f
-    → (a : ℕ) → a ≡ fault_of x → (r : Turn) → r ≡ stopped t a → Turned bs ns ns t r
-turn_refused bs ns t w g x e f u a z r y =
-    rw (y, z) (turn_stops bs ns t (fault_of x) w g (records_fault t.count (drop t.at bs) (fault_of x) (entry_faulty kinds bs t.at x e f u)))
+pub turn_refused : (bs ns : List ℕ) (p : Place) (x : Result Entry Fault) → told x ≡ as_entry (length bs) (entry kinds (drop p.at bs)) → (f : Fault) → x ≡ Err f → (a : ℕ) → a ≡ number_of f → last ns p.n a ≡ at_last bs ns p
+turn_refused bs ns p x e f u a z =
+    rw z (stops bs ns p (number_of f) (records_fault p.count (drop p.at bs) (number_of f) (is_fault (length bs) (entry kinds (drop p.at bs)) x e f u)))
 
 -- the end
 end_limits : (ls : List ℕ) → kinds 0 ≡ some ls → ls ≡ most32 ∷ []
 unfolding kinds row
 end_limits ls e = cc
 
-pub turn_end : (bs ns : List ℕ) (t : Turn) → Fit bs ns t → t.going ≡ true → (k a b c next : ℕ) → Stands kinds bs t.at k a b c next → k ≡ 0
-    → (v : ℕ) → v ≡ ending t.count (0 ∷ a ∷ []) (drop next bs) → (r : Turn) → r ≡ stopped t v → Turned bs ns ns t r
-unfolding ending
-turn_end bs ns t w g k a b c next s z v e r y =
-    let m : s.limits ≡ most32 ∷ [] = end_limits s.limits (ap kinds (sym z) ∙ s.known) in
-    let i : entry kinds (drop t.at bs) ≡ whole (k ∷ a ∷ []) (drop next bs) = s.is ∙ rw m in
-    rw (y, e) (turn_stops bs ns t (ending t.count (0 ∷ a ∷ []) (drop next bs)) w g (records_end t.count (drop t.at bs) (k ∷ a ∷ []) (drop next bs) i (eq-eqb k 0 z)))
+module _ {bs : List ℕ} {at k a b c next : ℕ} (stands : Stands kinds bs at k a b c next) where
+  pub turn_end : (ns : List ℕ) (n count : ℕ) → k ≡ 0 → last ns n (ending count (0 ∷ a ∷ []) (drop next bs)) ≡ at_last bs ns record { at = at; n = n; count = count }
+  unfolding ending
+  turn_end ns n count z =
+      let m : stands.limits ≡ most32 ∷ [] = end_limits stands.limits (ap kinds (sym z) ∙ stands.known) in
+      let i : entry kinds (drop at bs) ≡ whole (k ∷ a ∷ []) (drop next bs) = stands.is ∙ rw m in
+      stops bs ns record { at = at; n = n; count = count } (ending count (0 ∷ a ∷ []) (drop next bs)) (records_end count (drop at bs) (k ∷ a ∷ []) (drop next bs) i (eq-eqb k 0 z))
 
--- a record
-fewer_turns : (bs : List ℕ) (t r : Turn) → t.going ≡ true → r.going ≡ true → t.at < r.at → r.at ≤ length bs → turns_left bs r < turns_left bs t
-unfolding turns_left
-fewer_turns bs t r g h l m = rw (g, h) (omega arith)
+  -- a record has two to four numbers, and took as many bytes
+  module _ {size : ℕ} (is : size ≡ size_of k) where
+    size_limits : size ≡ suc (length stands.limits)
+    unfolding size_of
+    size_limits = is ∙ rw stands.known
 
-pub size_is : (k : ℕ) (ls : List ℕ) → kinds k ≡ some ls → size_of k ≡ suc (length ls)
-unfolding size_of
-size_is k ls e = rw e
+    pub size_fits : (2 ≤ size) × (size ≤ 4) × (at + size ≤ next) × (next ≤ length bs)
+    size_fits =
+        let l : size ≡ suc (length stands.limits) = size_limits in
+        let m : (1 ≤ length stands.limits) × (length stands.limits ≤ 3) = kinds_fields k stands.limits stands.known in
+        (omega arith, omega arith, omega (arith, stands.behind), stands.inside)
 
-module _ (bs old : List ℕ) (t : Turn) (fit : Fit bs old t) (going : t.going ≡ true) (k a b c next : ℕ) (stands : Stands kinds bs t.at k a b c next) (size : ℕ) (is : size ≡ size_of k) where
-  size_limits : size ≡ suc (length stands.limits)
-  size_limits = is ∙ size_is k stands.limits stands.known
+    pub turn_item : (old : List ℕ) (n count : ℕ) → Fit bs old record { at = at; n = n; count = count } → (k ≡ 0 → ⊥) → (new : List ℕ) → length new ≡ length old → new ≡ put_at old n (take size (k ∷ a ∷ b ∷ c ∷ []))
+        → GoesOn bs old new record { at = at; n = n; count = count } record { at = next; n = n + size; count = count + 1 }
+    turn_item old n count fit z new h e =
+        let f : (2 ≤ size) × (size ≤ 4) × (at + size ≤ next) × (next ≤ length bs) = size_fits in
+        record {
+          end_kept = kept;
+          fit = record { room = omega (arith, fit.room); inside = stands.inside; few = omega (arith, fit.few); fewer = omega (arith, fit.fewer) };
+          further = omega arith;
+        }
+      where
+        ms : List ℕ
+        ms = take (suc (length stands.limits)) (k ∷ a ∷ b ∷ c ∷ [])
 
-  pub size_fits : (t.n + size ≤ length old) × (2 ≤ size) × (size ≤ 4)
-  size_fits =
-      let l : size ≡ suc (length stands.limits) = size_limits in
-      let m : (1 ≤ length stands.limits) × (length stands.limits ≤ 3) = kinds_fields k stands.limits stands.known in
-      (omega (arith, fit.room, fit.few, stands.behind, stands.inside), omega arith, omega arith)
+        long : length ms ≡ size
+        long = length-take-le (suc (length stands.limits)) (k ∷ a ∷ b ∷ c ∷ []) (omega (arith, size_limits, size_fits)) ∙ sym size_limits
 
-  -- the place of the next number is no further than that of the next byte
-  pub places_fit : (t.n + size ≤ next) × (t.count + 1 ≤ next) × (next ≤ length bs)
-  places_fit =
-      let l : size ≡ suc (length stands.limits) = size_limits in
-      (omega (arith, fit.few, stands.behind), omega (arith, fit.fewer, stands.behind), stands.inside)
+        put : new ≡ put_at old n ms
+        put = e ∙ ap (λ (m : ℕ). put_at old n (take m (k ∷ a ∷ b ∷ c ∷ []))) size_limits
 
-  pub turn_item : (k ≡ 0 → ⊥) → (new : List ℕ) → new ≡ put_at old t.n (take size (k ∷ a ∷ b ∷ c ∷ [])) → length new ≡ length old → Turned bs old new t (going_from next (t.n + size) (t.count + 1))
-  turn_item z new e h = record {
-    end_kept = kept;
-    fit = record { room = omega (arith, fit.room); inside = stands.inside; few = places_fit.0; fewer = places_fit.1 };
-    less = fewer_turns bs t (going_from next (t.n + size) (t.count + 1)) going refl (omega (arith, stands.behind)) stands.inside;
-  }
-    where
-      ms : List ℕ
-      ms = take (suc (length stands.limits)) (k ∷ a ∷ b ∷ c ∷ [])
-
-      long : length ms ≡ size
-      long = length-take-le (suc (length stands.limits)) (k ∷ a ∷ b ∷ c ∷ []) (omega (arith, size_limits, size_fits.2)) ∙ sym size_limits
-
-      put : new ≡ put_at old t.n ms
-      put = e ∙ ap (λ (m : ℕ). put_at old t.n (take m (k ∷ a ∷ b ∷ c ∷ []))) size_limits
-
-      next_count : t.count + 1 ≡ suc t.count
-      next_count = add-one t.count
-
-      kept : at_last bs new (going_from next (t.n + size) (t.count + 1)) ≡ at_last bs old t
-      kept =
-          rw (put, ← long, next_count)
-          (from_item bs old t.n ms next (suc t.count) (omega (arith, long, size_fits.0))
-          ∙ ap (last_of old t.n) (sym (records_item t.count (drop t.at bs) ms (drop next bs) stands.is (ne_eqb k 0 z)))
-          ∙ sym (going_on bs old t going))
+        kept : at_last bs new record { at = next; n = n + size; count = count + 1 } ≡ at_last bs old record { at = at; n = n; count = count }
+        kept =
+            rw (put, add-one count)
+            (from_item bs old n ms next (n + size) (suc count) (omega (arith, long)) (omega (arith, size_fits, fit.room, fit.few, fit.inside))
+            ∙ ap (last_of old n) (sym (records_item count (drop at bs) ms (drop next bs) stands.is (ne_eqb k 0 z))))
 
 -- ---- a whole call
 
@@ -360,27 +271,19 @@ unfolding read
 read_fault bs a e = rw (e, read)
 
 -- edition, M or H are refused
-pub head_refused : (bs old : List ℕ) → length bs ≤ length old → (x : Entry) → x ≡ as_entry (length bs) (entry editions bs) → (f : ℕ) → x ≡ Faulty f → (a : ℕ) → a ≡ fault_of x → Reads bs old old 0 a
+pub head_refused : (bs old : List ℕ) → length bs ≤ length old → (x : Result Entry Fault) → told x ≡ as_entry (length bs) (entry editions bs) → (f : Fault) → x ≡ Err f → (a : ℕ) → a ≡ number_of f → Reads bs old old 0 a
 head_refused bs old h x e f u a z =
-    all_read bs old old 0 a h (sym (ap (last_of old 0) (read_fault bs a (entry_faulty editions bs 0 x e f u ∙ ap fault (sym z))) ∙ nothing_more old 0 a))
+    all_read bs old old 0 a h (sym (ap (last_of old 0) (read_fault bs a (is_fault (length bs) (entry editions bs) x e f u ∙ ap fault (sym z))) ∙ nothing_more old 0 a))
 
 -- edition, M and H are put
-module _ (bs old : List ℕ) (room : length bs ≤ length old) (k a b c next : ℕ) (stands : Stands editions bs 0 k a b c next) where
+module _ {bs : List ℕ} {k a b c next : ℕ} (stands : Stands editions bs 0 k a b c next) where
   two_limits : length stands.limits ≡ 2
   two_limits = editions_two k stands.limits stands.known
 
-  pub head_fits : 0 + 3 ≤ length old
-  head_fits = omega (arith, two_limits, stands.behind, stands.inside)
+  pub head_fits : (3 ≤ next) × (next ≤ length bs)
+  head_fits = (omega (arith, two_limits, stands.behind), stands.inside)
 
-  pub head_turn : (new : List ℕ) → length new ≡ length old → Fit bs new (going_from next 3 0)
-  head_turn new h = record { room = omega arith; inside = stands.inside; few = omega (arith, two_limits, stands.behind); fewer = omega arith }
-
-  pub head_starts : (new : List ℕ) → new ≡ put_at old 0 (take 3 (k ∷ a ∷ b ∷ c ∷ [])) → at_last bs new (going_from next 3 0) ≡ last_of old 0 (read bs)
-  head_starts new e =
+  pub head_starts : (old new : List ℕ) → length bs ≤ length old → new ≡ put_at old 0 (k ∷ a ∷ b ∷ []) → at_last bs new record { at = next; n = 3; count = 0 } ≡ last_of old 0 (read bs)
+  head_starts old new h e =
       let i : entry editions bs ≡ whole (k ∷ a ∷ b ∷ []) (drop next bs) = stands.is ∙ rw two_limits in
-      rw e (from_item bs old 0 (k ∷ a ∷ b ∷ []) next 0 head_fits ∙ ap (last_of old 0) (sym (read_whole bs (k ∷ a ∷ b ∷ []) (drop next bs) i)))
-
--- the reading has ended
-pub read_ends : (bs old new : List ℕ) (t : Turn) → length bs ≤ length old → at_last bs new t ≡ last_of old 0 (read bs) → t.going ≡ false → Reads bs old new t.n t.answer
-unfolding at_last
-read_ends bs old new t h e g = all_read bs old new t.n t.answer h (rw g at e)
+      rw e (from_item bs old 0 (k ∷ a ∷ b ∷ []) next 3 0 refl (omega (arith, head_fits)) ∙ ap (last_of old 0) (sym (read_whole bs (k ∷ a ∷ b ∷ []) (drop next bs) i)))

@@ -11,13 +11,16 @@ use borrow.Author.Tests.{le-leb, lt-leb, eqb-true, eqb-false}
 use lib.Dec.{eqb}
 use lib.ListN.{length, drop, get_or}
 use lib.Seq.{sets, sets-eq}
+use Rattle.std.specs.Prelude.{Result, Ok, Err}
+use Rattle.record.specs.declared.writing.Took.{Took}
+use Rattle.record.specs.declared.writing.WriteFault.{WriteFault}
 use Rattle.record.specs.Number.{too_short, not_understood}
 use Rattle.record.specs.Fields.{editions}
 use Rattle.record.specs.Writing.{taken, turned_down, take_named, take_entry, Writing, writing, write_records, write, if_room, write_into}
-use Rattle.record.specs.WritingSteps.{Takes, stored, not_stored, store, given_back, to_the_end, limits, Limited}
+use Rattle.record.specs.WritingSteps.{Takes, stored, not_stored, store, given_last, to_the_end, number_of, count_of, answer_of}
 use Rattle.record.specs.Promises.{Writes}
 use Rattle.record.proofs.Theorems.{refused_writes_nothing}
-use Rattle.record.proofs.WritingRecords.{before_records, back_taken, back_refused, went_on, stopped}
+use Rattle.record.proofs.WritingRecords.{before_records, went_on, stopped}
 
 -- ---- the edition, and what is behind it
 
@@ -26,30 +29,32 @@ unfolding write take_entry
 all_missing [] old z = refl
 all_missing (k ∷ ns) old z = absurd (omega arith)
 
-edition_first : (ns : List ℕ) (count : ℕ) (most : List ℕ) → 0 < length ns → Limited (editions (get_or ns 0 0)) count most → write ns ≡ before_records 0 (take_named (limits count most) (get_or ns 0 0) (drop 1 ns))
+edition_named : (ns : List ℕ) → 0 < length ns → write ns ≡ before_records 0 (take_named (editions (get_or ns 0 0)) (get_or ns 0 0) (drop 1 ns))
 unfolding write take_entry
-edition_first [] count most h l = absurd (omega arith)
-edition_first (k ∷ ns) count most h l = ap (λ (o : Option (List ℕ)). before_records 0 (take_named o k ns)) (sym l.known)
+edition_named [] h = absurd (omega arith)
+edition_named (k ∷ ns) h = refl
 
-module _ (ns old new : List ℕ) (count : ℕ) (most : List ℕ) (next end answer : ℕ) (h : 0 < length ns) (l : Limited (editions (get_or ns 0 0)) count most) (t : Takes (take_named (limits count most) (get_or ns 0 0) (drop 1 ns)) ns old new 1 0 next end answer) where
-  pub all_stopped : (answer ≡ 0 → ⊥) → given_back new 0 [] answer ≡ store old 0 (to_the_end (write ns))
-  all_stopped z =
-      stopped 0 old new (drop next ns) new 0 end 0 answer (take_named (limits count most) (get_or ns 0 0) (drop 1 ns)) z t.took
-      ∙ ap (λ (w : Writing). store old 0 (to_the_end w)) (sym (edition_first ns count most h l))
+edition_first : (ns : List ℕ) {o : Option (List ℕ)} → 0 < length ns → o ≡ editions (get_or ns 0 0) → write ns ≡ before_records 0 (take_named o (get_or ns 0 0) (drop 1 ns))
+edition_first ns h l = rw l (edition_named ns h)
 
-  pub all_taken : answer ≡ 0 → store new end (to_the_end (write_records 0 (drop next ns))) ≡ store old 0 (to_the_end (write ns))
-  all_taken z =
-      went_on 0 old new (drop next ns) 0 end answer (take_named (limits count most) (get_or ns 0 0) (drop 1 ns)) z t.took
-      ∙ ap (λ (w : Writing). store old 0 (to_the_end w)) (sym (edition_first ns count most h l))
+pub all_stopped : {ns old new : List ℕ} {o : Option (List ℕ)} {f : WriteFault} → 0 < length ns → o ≡ editions (get_or ns 0 0) → Takes (take_named o (get_or ns 0 0) (drop 1 ns)) ns old new 1 0 (Err f)
+    → not_stored (number_of f) ≡ store old 0 (to_the_end (write ns))
+all_stopped {ns} {old} {new} {o} {f} h l t =
+    stopped 0 old 0 f (take_named o (get_or ns 0 0) (drop 1 ns)) t.took ∙ ap (λ (w : Writing). store old 0 (to_the_end w)) (sym (edition_first ns h l))
 
--- ---- what the answer of a pass says of the bytes
+pub all_taken : {ns old new : List ℕ} {o : Option (List ℕ)} {k : Took} → 0 < length ns → o ≡ editions (get_or ns 0 0) → Takes (take_named o (get_or ns 0 0) (drop 1 ns)) ns old new 1 0 (Ok k)
+    → store new k.end (to_the_end (write_records 0 (drop k.next ns))) ≡ store old 0 (to_the_end (write ns))
+all_taken {ns} {old} {new} {o} h l t =
+    went_on 0 old 0 (take_named o (get_or ns 0 0) (drop 1 ns)) t.took ∙ ap (λ (w : Writing). store old 0 (to_the_end w)) (sym (edition_first ns h l))
+
+-- ---- what a pass says of the bytes
 
 pub record Refuses (w : Writing) (answer : ℕ) : Type 0 where
   pub nonzero : w.answer ≡ 0 → ⊥
   pub same : answer ≡ w.answer
 
-pass_refused : (w : Writing) (old new : List ℕ) (count answer : ℕ) → given_back new count [] answer ≡ store old 0 (to_the_end w) → (answer ≡ 0 → ⊥) → Refuses w answer
-pass_refused w old new count answer e z = go (eqb w.answer 0) refl (sym (back_refused new count [] answer z) ∙ e)
+pass_refused : (w : Writing) (old : List ℕ) (answer : ℕ) → not_stored answer ≡ store old 0 (to_the_end w) → Refuses w answer
+pass_refused w old answer e = go (eqb w.answer 0) refl e
   where
     go : (t : Bool) → eqb w.answer 0 ≡ t → not_stored answer ≡ store old 0 (cond t (taken w.bytes []) (turned_down w.answer)) → Refuses w answer
     go true q f = let y : ◌≡◌ {A = ℕ} 0 1 = cc in absurd (omega arith)
@@ -60,8 +65,8 @@ pub record Stores (w : Writing) (old new : List ℕ) (count : ℕ) : Type 0 wher
   pub bytes : new ≡ sets old 0 w.bytes
   pub many : count ≡ length w.bytes
 
-pass_stored : (w : Writing) (old new : List ℕ) (count answer : ℕ) → given_back new count [] answer ≡ store old 0 (to_the_end w) → answer ≡ 0 → Stores w old new count
-pass_stored w old new count answer e z = go (eqb w.answer 0) refl (sym (back_taken new count [] answer z) ∙ e)
+pass_stored : (w : Writing) (old new : List ℕ) (count : ℕ) → stored new count [] ≡ store old 0 (to_the_end w) → Stores w old new count
+pass_stored w old new count e = go (eqb w.answer 0) refl e
   where
     go : (t : Bool) → eqb w.answer 0 ≡ t → stored new count [] ≡ store old 0 (cond t (taken w.bytes []) (turned_down w.answer)) → Stores w old new count
     go true q f =
@@ -93,32 +98,25 @@ writes_as ns old new count answer w e p c a =
       answered = a ∙ ap (λ (v : Writing). v.answer) (sym e);
     }
 
-module _ (ns old spare new : List ℕ) (count answer : ℕ) (e : given_back new count [] answer ≡ store spare 0 (to_the_end (write ns))) where
-  pub write_refused : (answer ≡ 0 → ⊥) → Writes ns old old 0 answer
-  write_refused z =
-      let r = pass_refused (write ns) spare new count answer e z in
-      let b = no_bytes ns r.nonzero in
-      writes_as ns old old 0 answer (write ns) (into_fits (length old) ns (omega (arith, ap length b)))
-      (ap (λ (l : List ℕ). l ++ drop (length l) old) (sym b))
-      (sym (ap length b))
-      r.same
+-- what is refused leaves the lent bytes; the pass had others, or stored none
+pub write_refused : (ns old spare : List ℕ) (f : WriteFault) → not_stored (number_of f) ≡ store spare 0 (to_the_end (write ns)) → Writes ns old old 0 (number_of f)
+write_refused ns old spare f e =
+    let r = pass_refused (write ns) spare (number_of f) e in
+    let b = no_bytes ns r.nonzero in
+    writes_as ns old old 0 (number_of f) (write ns) (into_fits (length old) ns (omega (arith, ap length b))) (ap (λ (l : List ℕ). l ++ drop (length l) old) (sym b)) (sym (ap length b)) r.same
 
-  pub write_short : answer ≡ 0 → length old < count → Writes ns old old 0 too_short
-  write_short z h =
-      let s = pass_stored (write ns) spare new count answer e z in
-      writes_as ns old old 0 too_short (writing [] too_short) (into_short (length old) ns (omega (arith, s.many))) refl refl refl
+module _ (ns old spare new : List ℕ) (count : ℕ) (e : stored new count [] ≡ store spare 0 (to_the_end (write ns))) where
+  first : Stores (write ns) spare new count
+  first = pass_stored (write ns) spare new count e
 
-  pub write_put : answer ≡ 0 → count ≤ length old → (after : List ℕ) (many again : ℕ) → given_back after many [] again ≡ store old 0 (to_the_end (write ns)) → Writes ns old after many again
-  write_put z h after many again f = go (eqb again 0) refl
-    where
-      first : Stores (write ns) spare new count
-      first = pass_stored (write ns) spare new count answer e z
+  pub write_short : length old < count → Writes ns old old 0 too_short
+  write_short h = writes_as ns old old 0 too_short (writing [] too_short) (into_short (length old) ns (omega (arith, first.many))) refl refl refl
 
-      go : (t : Bool) → eqb again 0 ≡ t → Writes ns old after many again
-      go true q =
-          let u = pass_stored (write ns) old after many again f (eqb-true again 0 q) in
-          writes_as ns old after many again (write ns) (into_fits (length old) ns (omega (arith, first.many)))
-          (u.bytes ∙ sets-eq (write ns).bytes old 0 (omega (arith, first.many)) ∙ ap (λ (k : ℕ). (write ns).bytes ++ drop k old) (zero-add (length (write ns).bytes)))
-          u.many
-          (eqb-true again 0 q ∙ sym first.zero_answer)
-      go false q = absurd ((pass_refused (write ns) old after many again f (eqb-false again 0 q)).nonzero first.zero_answer)
+  pub write_put : count ≤ length old → (after : List ℕ) (r : Result ℕ WriteFault) → given_last after r ≡ store old 0 (to_the_end (write ns)) → Writes ns old after (count_of r) (answer_of r)
+  write_put h after (Ok many) f =
+      let u = pass_stored (write ns) old after many f in
+      writes_as ns old after many 0 (write ns) (into_fits (length old) ns (omega (arith, first.many)))
+      (u.bytes ∙ sets-eq (write ns).bytes old 0 (omega (arith, first.many)) ∙ ap (λ (k : ℕ). (write ns).bytes ++ drop k old) (zero-add (length (write ns).bytes)))
+      u.many
+      (sym first.zero_answer)
+  write_put h after (Err g) f = absurd ((pass_refused (write ns) old (number_of g) f).nonzero first.zero_answer)

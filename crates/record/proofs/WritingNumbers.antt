@@ -39,10 +39,10 @@ unfolding groups
 last_group zero n h = refl
 last_group (suc k) n h = simp (lt-ltb n 128 h)
 
-pub turn : (n : ℕ) (old new after : List ℕ) (at end left k : ℕ) → 128 ≤ left → after ≡ set new end (left % 128 + 128) → Left n old new at end left k → Left n old after at (end + 1) (left / 128) (at + 4 - (end + 1))
+pub turn : {n : ℕ} {old new after : List ℕ} {at end left k : ℕ} → 128 ≤ left → after ≡ set new end (left % 128 + 128) → Left n old new at end left k → Left n old after at (end + 1) (left / 128) (at + 4 - (end + 1))
 unfolding most_left
-turn n old new after at end left zero h e l = let s = l.small in absurd (omega arith)
-turn n old new after at end left (suc k) h e l =
+turn {k = zero} h e l = let s = l.small in absurd (omega arith)
+turn {n} {old} {new} {after} {at} {end} {left} {k = suc k} h e l =
     let p = l.place in
     let s = l.small in
     subst (λ (m : ℕ). Left n old after at (end + 1) (left / 128) m) fewer (record { place = omega arith; small = omega arith; same = same; behind = omega (arith, l.behind, ap length (one_more k left h)) })
@@ -57,8 +57,8 @@ turn n old new after at end left (suc k) h e l =
     fewer : k ≡ at + 4 - (end + 1)
     fewer = let p = l.place in omega arith
 
-pub last : (n : ℕ) (old new after : List ℕ) (at end left k : ℕ) → left < 128 → after ≡ set new end left → Left n old new at end left k → Puts n old after at (end + 1)
+pub last : {n : ℕ} {old new after : List ℕ} {at end left k : ℕ} → left < 128 → after ≡ set new end left → Left n old new at end left k → Puts n old after at (end + 1)
 unfolding number_bytes
-last n old new after at end left k h e l =
+last {n} {old} {new} {after} {at} {end} {left} {k} h e l =
     let p = l.place in
     record { put = e ∙ ap (λ (gs : List ℕ). sets new end gs) (sym (last_group k left h)) ∙ l.same; ends = omega (arith, l.behind, ap length (last_group k left h)); short = omega arith }

@@ -4,6 +4,7 @@ pub mod Asked
 pub mod Fields
 pub mod Reading
 pub mod Found
+pub mod Kinds
 pub mod Turns
 pub mod Writing
 pub mod WritingSteps

@@ -1,6 +1,8 @@
--- What the reader's code carries from record to record, and what a call comes to from there: a turn leaves that as it was.
-use Rattle.std.specs.Prelude.{ℕ, suc, ◌+◌, ◌-◌, ◌≤◌, ◌<◌, false, cond, List, ◌++◌, ◌≡◌, length, take, drop}
+-- Where the reader's code stands from record to record, and what a call comes to from there: a turn leaves that as it was.
+use Rattle.std.specs.Prelude.{ℕ, suc, ◌+◌, ◌≤◌, ◌<◌, List, ◌++◌, ◌≡◌, length, take, drop}
+use Rattle.record.specs.declared.reading.Place.{Place}
 use Rattle.record.specs.declared.reading.Turn.{Turn}
+use Rattle.record.specs.declared.reading.Turn.TheVariants.{On, Ended}
 use Rattle.record.specs.Fields.{kinds}
 use Rattle.record.specs.Found.{fields_in}
 use Rattle.record.specs.Reading.{Reading, records, all_numbers}
@@ -26,26 +28,23 @@ last ns n a = record { numbers = ns; count = n; answer = a }
 unfoldable pub last_of : List ℕ → ℕ → Reading → Last
 last_of ns n r = last (put_at ns n (all_numbers r.items)) (n + length (all_numbers r.items)) r.answer
 
--- what a call comes to from a turn on
-unfoldable pub at_last : List ℕ → List ℕ → Turn → Last
-at_last bs ns t = cond t.going (last_of ns t.n (records t.count (drop t.at bs))) (last ns t.n t.answer)
-
--- the reading ends here
-abbrev pub stopped : Turn → ℕ → Turn
-stopped t a = record { going = false; at = t.at; n = t.n; count = t.count; answer = a }
-
--- how many turns may be left
-unfoldable pub turns_left : List ℕ → Turn → ℕ
-turns_left bs t = cond t.going (suc (length bs - t.at)) 0
+-- what a call comes to from a place on
+abbrev pub at_last : List ℕ → List ℕ → Place → Last
+at_last bs ns p = last_of ns p.n (records p.count (drop p.at bs))
 
 -- each number and each record takes a byte or more, and there are as many lent numbers as bytes
-pub record Fit (bs ns : List ℕ) (t : Turn) : Type 0 where
+pub record Fit (bs ns : List ℕ) (p : Place) : Type 0 where
   pub room : length bs ≤ length ns
-  pub inside : t.at ≤ length bs
-  pub few : t.n ≤ t.at
-  pub fewer : t.count ≤ t.at
+  pub inside : p.at ≤ length bs
+  pub few : p.n ≤ p.at
+  pub fewer : p.count ≤ p.at
 
-pub record Turned (bs old new : List ℕ) (t r : Turn) : Type 0 where
-  pub end_kept : at_last bs new r ≡ at_last bs old t
-  pub fit : Fit bs new r
-  pub less : turns_left bs r < turns_left bs t
+-- from one place to the next
+pub record GoesOn (bs old new : List ℕ) (p q : Place) : Type 0 where
+  pub end_kept : at_last bs new q ≡ at_last bs old p
+  pub fit : Fit bs new q
+  pub further : p.at < q.at
+
+abbrev pub Turned : List ℕ → List ℕ → List ℕ → Place → Turn → Type 0
+Turned bs old new p (On q) = GoesOn bs old new p q
+Turned bs old new p (Ended a) = last new p.n a ≡ at_last bs old p

@@ -1,21 +1,18 @@
 // A record, and the head of a string: a number that says what follows, and its fields.
 ghost use Rattle.std.specs.Prelude.{[], ◌∷◌, ◌≡◌, length, drop};
 ghost use Rattle.record.specs.Fields.{most16, joined, field, fields, kinds, editions, entry};
-ghost use Rattle.record.specs.Found.{as_number, as_entry, fault_of, fields_in, last_in};
+ghost use Rattle.record.specs.Found.{said, as_number, told, as_entry, fields_in, last_in};
 
-use crate::number::{Number, number_at, refusal};
+use crate::number::{Fault, Number, number_at, refusal};
 
-// What was read whole: a kind or an edition, its fields, 0 for those that it does not have, and the place behind it; or what refuses it.
+// What was read whole: a kind or an edition, its fields, 0 for those that it does not have, and the place behind it.
 #[derive(Clone, Copy)]
-pub enum Entry {
-    Whole {
-        kind: u32,
-        a: u32,
-        b: u32,
-        c: u32,
-        next: usize,
-    },
-    Faulty(u32),
+pub struct Entry {
+    pub kind: u32,
+    pub a: u32,
+    pub b: u32,
+    pub c: u32,
+    pub next: usize,
 }
 
 // The limits of a field: 16 and 32 bits.
@@ -24,8 +21,9 @@ const MOST_16: u32 = 65535;
 const MOST_32: u32 = 4294967295;
 
 // A number that is at most `limit`; 23 where it is above.
+#[tactic(auto, using(crate::proofs::Groups::is_found, crate::proofs::Groups::is_refused), unfolding(crate::specs::Fields::field, crate::specs::Fields::within))]
 fn field_at(bytes: &[u8], at: usize, limit: u32) -> Number
-    ensures { result ≡ as_number (length bytes.now) (field limit (drop at bytes.now)) }
+    ensures { said result ≡ as_number (length bytes.now) (field limit (drop at bytes.now)) }
 {
     let n = number_at(bytes, at);
     let Number::Found(v, next) = n else {
@@ -34,89 +32,78 @@ fn field_at(bytes: &[u8], at: usize, limit: u32) -> Number
     if v <= limit {
         return Number::Found(v, next);
     }
-    Number::Refused(23)
+    Number::Refused(Fault::TooLarge)
 }
 
-// `kind` with one field.
-fn one(bytes: &[u8], at: usize, kind: u32, limit: u32) -> Entry
-    ensures { result ≡ as_entry (length bytes.now) (joined kind (fields (limit ∷ []) (drop at bytes.now))) }
+// `kind` with one field. `one`, `two` and `three` stay apart, and each is called from one place: the compiled reader was slower otherwise
+// (docs/PERFORMANCE.md).
+#[tactic(auto, using(crate::proofs::Entries::after_field), unfolding(crate::specs::Fields::joined, crate::specs::Fields::fields))]
+fn one(bytes: &[u8], at: usize, kind: u32, limit: u32) -> Result<Entry, Fault>
+    ensures { told result ≡ as_entry (length bytes.now) (joined kind (fields (limit ∷ []) (drop at bytes.now))) }
 {
     let n = field_at(bytes, at, limit);
     let Number::Found(a, next) = n else {
-        return Entry::Faulty(refusal(n));
+        return Err(refusal(n));
     };
-    Entry::Whole {
+    Ok(Entry {
         kind,
         a,
         b: 0,
         c: 0,
         next,
-    }
+    })
 }
 
 // `kind` with two fields, the first of 16 bits.
-fn two(bytes: &[u8], at: usize, kind: u32, limit: u32) -> Entry
-    ensures { result ≡ as_entry (length bytes.now) (joined kind (fields (most16 ∷ limit ∷ []) (drop at bytes.now))) }
+#[tactic(auto, using(crate::proofs::Entries::after_field), unfolding(crate::specs::Fields::joined, crate::specs::Fields::fields))]
+fn two(bytes: &[u8], at: usize, kind: u32, limit: u32) -> Result<Entry, Fault>
+    ensures { told result ≡ as_entry (length bytes.now) (joined kind (fields (most16 ∷ limit ∷ []) (drop at bytes.now))) }
 {
     let n = field_at(bytes, at, MOST_16);
     let Number::Found(a, second) = n else {
-        return Entry::Faulty(refusal(n));
+        return Err(refusal(n));
     };
     let m = field_at(bytes, second, limit);
     let Number::Found(b, next) = m else {
-        return Entry::Faulty(refusal(m));
+        return Err(refusal(m));
     };
-    Entry::Whole {
+    Ok(Entry {
         kind,
         a,
         b,
         c: 0,
         next,
-    }
+    })
 }
 
 // `kind` with three fields of 16 bits.
-fn three(bytes: &[u8], at: usize, kind: u32) -> Entry
-    ensures { result ≡ as_entry (length bytes.now) (joined kind (fields (most16 ∷ most16 ∷ most16 ∷ []) (drop at bytes.now))) }
+#[tactic(auto, using(crate::proofs::Entries::after_field), unfolding(crate::specs::Fields::joined, crate::specs::Fields::fields))]
+fn three(bytes: &[u8], at: usize, kind: u32) -> Result<Entry, Fault>
+    ensures { told result ≡ as_entry (length bytes.now) (joined kind (fields (most16 ∷ most16 ∷ most16 ∷ []) (drop at bytes.now))) }
 {
     let n = field_at(bytes, at, MOST_16);
     let Number::Found(a, second) = n else {
-        return Entry::Faulty(refusal(n));
+        return Err(refusal(n));
     };
     let m = field_at(bytes, second, MOST_16);
     let Number::Found(b, third) = m else {
-        return Entry::Faulty(refusal(m));
+        return Err(refusal(m));
     };
     let l = field_at(bytes, third, MOST_16);
     let Number::Found(c, next) = l else {
-        return Entry::Faulty(refusal(l));
+        return Err(refusal(l));
     };
-    Entry::Whole {
+    Ok(Entry {
         kind,
         a,
         b,
         c,
         next,
-    }
-}
-
-// What refuses an entry; 0 where it was whole.
-pub fn fault_of(e: Entry) -> u32
-    ensures { result ≡ fault_of e }
-{
-    match e {
-        Entry::Whole {
-            kind: _,
-            a: _,
-            b: _,
-            c: _,
-            next: _,
-        } => 0,
-        Entry::Faulty(a) => a,
-    }
+    })
 }
 
 // How many fields a kind has; 0 for a kind that there is not.
+#[tactic(auto, using(crate::proofs::KindTable::no_kind), unfolding(crate::specs::Fields::kinds, crate::specs::Fields::row))]
 fn fields_of(kind: u32) -> u32
     ensures { result ≡ fields_in (kinds kind) }
 {
@@ -129,6 +116,7 @@ fn fields_of(kind: u32) -> u32
 }
 
 // The limit of a kind's last field. Those before it have 16 bits.
+#[tactic(auto, using(crate::proofs::KindTable::no_kind), unfolding(crate::specs::Fields::kinds, crate::specs::Fields::row))]
 fn limit_of(kind: u32) -> u32
     ensures { result ≡ last_in (kinds kind) }
 {
@@ -139,13 +127,14 @@ fn limit_of(kind: u32) -> u32
 }
 
 // The record that begins at `at`, or kind 0 and the count at the end: 20 and 21 as a number, 22 for an unknown kind, 23 for a field that
-// is too large for its kind.
-pub fn record_at(bytes: &[u8], at: usize) -> Entry
-    ensures { result ≡ as_entry (length bytes.now) (entry kinds (drop at bytes.now)) }
+// is too large for its kind. By tests: a `match` of how many fields there are made playing slower by a fiftieth.
+#[tactic(auto, using(crate::proofs::Entries::after_number, crate::proofs::KindTable::shaped), unfolding(crate::specs::Fields::entry, crate::specs::Fields::named))]
+pub fn record_at(bytes: &[u8], at: usize) -> Result<Entry, Fault>
+    ensures { told result ≡ as_entry (length bytes.now) (entry kinds (drop at bytes.now)) }
 {
     let n = number_at(bytes, at);
     let Number::Found(kind, next) = n else {
-        return Entry::Faulty(refusal(n));
+        return Err(refusal(n));
     };
     let many = fields_of(kind);
     if many == 2 {
@@ -157,40 +146,42 @@ pub fn record_at(bytes: &[u8], at: usize) -> Entry
     if many == 1 {
         return one(bytes, next, kind, limit_of(kind));
     }
-    Entry::Faulty(22)
+    Err(Fault::Unknown)
 }
 
-// M and H, behind the edition. That this is not `two` keeps each of `one`, `two` and `three` in one place of the compiled reader.
-fn sizes(bytes: &[u8], at: usize, edition: u32) -> Entry
-    ensures { result ≡ as_entry (length bytes.now) (joined edition (fields (most16 ∷ most16 ∷ []) (drop at bytes.now))) }
+// M and H, behind the edition. That this is not `two` leaves `two` called from one place.
+#[tactic(auto, using(crate::proofs::Entries::after_field), unfolding(crate::specs::Fields::joined, crate::specs::Fields::fields))]
+fn sizes(bytes: &[u8], at: usize, edition: u32) -> Result<Entry, Fault>
+    ensures { told result ≡ as_entry (length bytes.now) (joined edition (fields (most16 ∷ most16 ∷ []) (drop at bytes.now))) }
 {
     let n = field_at(bytes, at, MOST_16);
     let Number::Found(m, second) = n else {
-        return Entry::Faulty(refusal(n));
+        return Err(refusal(n));
     };
     let l = field_at(bytes, second, MOST_16);
     let Number::Found(h, next) = l else {
-        return Entry::Faulty(refusal(l));
+        return Err(refusal(l));
     };
-    Entry::Whole {
+    Ok(Entry {
         kind: edition,
         a: m,
         b: h,
         c: 0,
         next,
-    }
+    })
 }
 
 // Edition, M and H at the start: 20 and 21 as a number, 22 for an unknown edition, 23 for M or H above 65,535.
-pub fn head_of(bytes: &[u8]) -> Entry
-    ensures { result ≡ as_entry (length bytes.now) (entry editions bytes.now) }
+#[tactic(auto, using(crate::proofs::Entries::after_first), unfolding(crate::specs::Fields::entry, crate::specs::Fields::named, crate::specs::Fields::editions))]
+pub fn head_of(bytes: &[u8]) -> Result<Entry, Fault>
+    ensures { told result ≡ as_entry (length bytes.now) (entry editions bytes.now) }
 {
     let n = number_at(bytes, 0);
     let Number::Found(edition, next) = n else {
-        return Entry::Faulty(refusal(n));
+        return Err(refusal(n));
     };
     if edition == 1 {
         return sizes(bytes, next, edition);
     }
-    Entry::Faulty(22)
+    Err(Fault::Unknown)
 }

@@ -3,11 +3,13 @@
 
 mod asked;
 mod entry;
+mod kinds;
 mod number;
 mod reading;
 mod writing;
 
-pub use asked::{Asked, request_of};
-pub use entry::{Entry, fault_of, head_of, record_at};
+pub use asked::request_of;
+pub use entry::{Entry, head_of, record_at};
+pub use number::Fault;
 pub use reading::{Got, read};
-pub use writing::{Wrote, write};
+pub use writing::{WriteFault, write};

@@ -1,32 +1,58 @@
 // A number in groups of seven bits, lowest group first.
 ghost use Rattle.std.specs.Prelude.{◌≡◌, ◌≤◌, length, drop};
+ghost use Rattle.record.specs.declared.number.Fault.{Fault};
+ghost use Rattle.record.specs.declared.number.Number.TheVariants.{Refused};
 ghost use Rattle.record.specs.Number.{more_groups, number};
-ghost use Rattle.record.specs.Found.{as_number, refusal_of};
+ghost use Rattle.record.specs.Found.{number_of, said, as_number};
 
-// A number and the place behind it, or what refuses it.
+// What refuses bytes, each with its number in document 02.
+#[derive(Clone, Copy, PartialEq, Eq)]
+pub enum Fault {
+    // The bytes end inside a number, or before what must come.
+    Cut = 20,
+    // A long form, or more than 32 bits.
+    LongForm = 21,
+    // An unknown kind or edition.
+    Unknown = 22,
+    // A field that is too large for its kind.
+    TooLarge = 23,
+}
+
+impl Fault {
+    // The refusal's number.
+    pub fn number(self) -> u32
+        ensures { result ≡ number_of self }
+    {
+        self as u32
+    }
+}
+
+// A number and the place behind it, or what refuses it. This is no Result: document 01's list of code forms has each answer of a
+// seven-bit number as an enum that record reading unpacks by `let .. else`.
 #[derive(Clone, Copy)]
 pub enum Number {
     Found(u32, usize),
-    Refused(u32),
+    Refused(Fault),
 }
 
 // The groups behind the first, from `at` on, where k more may follow this one.
+#[tactic(auto, using(crate::proofs::Groups::bytes_read), unfolding(crate::specs::Number::more_groups, crate::specs::Number::before))]
 fn groups(bytes: &[u8], at: usize, k: u32) -> Number
     requires { k ≤ 3 }
-    ensures { result ≡ as_number (length bytes.now) (more_groups k (drop at bytes.now)) }
+    ensures { said result ≡ as_number (length bytes.now) (more_groups k (drop at bytes.now)) }
 {
     if bytes.len() <= at {
-        return Number::Refused(20);
+        return Number::Refused(Fault::Cut);
     }
-    let b = wide(bytes[at]);
+    let b = u32::from(bytes[at]);
     if b == 0 {
-        return Number::Refused(21);
+        return Number::Refused(Fault::LongForm);
     }
     if k == 0 {
         if b <= 15 {
             return Number::Found(b, at + 1);
         }
-        return Number::Refused(21);
+        return Number::Refused(Fault::LongForm);
     }
     if b < 128 {
         return Number::Found(b, at + 1);
@@ -39,13 +65,14 @@ fn groups(bytes: &[u8], at: usize, k: u32) -> Number
 }
 
 // The number that begins at `at`: 20 where the bytes end inside it, 21 for a long form or more than 32 bits.
+#[tactic(auto, using(crate::proofs::Groups::bytes_read), unfolding(crate::specs::Number::number, crate::specs::Number::before))]
 pub fn number_at(bytes: &[u8], at: usize) -> Number
-    ensures { result ≡ as_number (length bytes.now) (number (drop at bytes.now)) }
+    ensures { said result ≡ as_number (length bytes.now) (number (drop at bytes.now)) }
 {
     if bytes.len() <= at {
-        return Number::Refused(20);
+        return Number::Refused(Fault::Cut);
     }
-    let b = wide(bytes[at]);
+    let b = u32::from(bytes[at]);
     if b < 128 {
         return Number::Found(b, at + 1);
     }
@@ -56,19 +83,13 @@ pub fn number_at(bytes: &[u8], at: usize) -> Number
     Number::Found(b - 128 + 128 * n, next)
 }
 
-// A byte as a number of 32 bits.
-fn wide(b: u8) -> u32
-    ensures { result ≡ b }
-{
-    b as u32
-}
-
-// What refuses a number; 0 where it was found.
-pub fn refusal(n: Number) -> u32
-    ensures { result ≡ refusal_of n }
+// What refuses a number that was not found.
+pub fn refusal(n: Number) -> Fault
+    requires { (f : Fault) × (n ≡ Refused f) }
+    ensures { n ≡ Refused result }
 {
     match n {
-        Number::Found(_, _) => 0,
-        Number::Refused(a) => a,
+        Number::Found(_, _) => unreachable!(),
+        Number::Refused(f) => f,
     }
 }

@@ -1,46 +1,41 @@
 // The writer of a record: the numbers of edition, M, H and records become bytes.
-ghost use Rattle.std.specs.Prelude.{◌≡◌, [], ◌+◌, ◌*◌, ◌^◌, ◌<◌, ◌≤◌, length, take, drop, set, get_or};
-ghost use Rattle.record.specs.Fields.{editions};
+ghost use Rattle.std.specs.Prelude.{◌≡◌, ◌+◌, ◌*◌, ◌^◌, ◌<◌, ◌≤◌, length, drop, set, get_or};
+ghost use Rattle.record.specs.Kinds.{fields_known};
 ghost use Rattle.record.specs.Writing.{take_fields, take_named, write_end, write_records};
 ghost use Rattle.record.specs.Writing;
-ghost use Rattle.record.specs.WritingSteps.{Puts, Takes, Limited, store, given_back, to_the_end, record_kinds, limits};
+ghost use Rattle.record.specs.WritingSteps.{Puts, Takes, store, given_last, to_the_end, record_kinds, number_of, count_of, answer_of};
 ghost use Rattle.record.specs.Promises.{Writes};
 
-// How many bytes were written, and the answer.
-#[derive(Clone, Copy)]
-pub struct Wrote {
-    pub count: usize,
-    pub answer: u32,
+use crate::kinds::{MOST32, fields_of_edition, fields_of_kind};
+
+// What refuses a list, by document 02's numbers.
+#[derive(Clone, Copy, PartialEq, Eq)]
+pub enum WriteFault {
+    // There is no such edition or kind.
+    Unknown = 22,
+    // A number is above its limit, or there are too many records.
+    TooLarge = 23,
+    // The lent bytes are too few.
+    TooShort = 25,
+    // The list ends inside an entry: no answer of document 02.
+    NotUnderstood = 4294967295,
 }
 
-// The fields of an edition or a kind: how many, and the largest number for each. With none there is no such edition or kind.
-#[derive(Clone, Copy)]
-struct Limits {
-    count: usize,
-    most: [u32; 3],
+impl WriteFault {
+    // Its number as an answer.
+    pub fn number(self) -> u32
+        ensures { result ≡ number_of self }
+    {
+        self as u32
+    }
 }
 
-// After an entry: where the next number is, the place behind the bytes, and the answer.
+// After an entry: where the next number is, and the place behind the bytes.
 #[derive(Clone, Copy)]
 struct Took {
     next: usize,
     end: usize,
-    answer: u32,
 }
-
-// The answers of document 02, and the one for a list that ends inside an entry.
-const UNKNOWN: u32 = 22;
-
-const TOO_LARGE: u32 = 23;
-
-const TOO_SHORT: u32 = 25;
-
-const NOT_UNDERSTOOD: u32 = 4294967295;
-
-// The largest numbers of a 16-bit and of a 32-bit field.
-const MOST16: u32 = 65535;
-
-const MOST32: u32 = 4294967295;
 
 // Stores a byte; past the end of the lent bytes nothing is stored.
 fn put_byte(b: u8, bytes: &mut [u8], at: usize)
@@ -59,6 +54,7 @@ fn put_number(n: u32, bytes: &mut [u8], at: usize) -> usize
 {
     let mut left = n;
     let mut end = at;
+    // By groups, as many as the number has.
     while 128 <= left {
         put_byte((left % 128 + 128) as u8, bytes, end);
         left = left / 128;
@@ -68,143 +64,86 @@ fn put_number(n: u32, bytes: &mut [u8], at: usize) -> usize
     end + 1
 }
 
-// The fields of an edition: edition 1 has M and H, and there is no other.
-fn edition_limits(edition: u32) -> Limits
-    ensures { Limited (editions edition) result.count result.most }
-{
-    if edition == 1 {
-        return Limits {
-            count: 2,
-            most: [MOST16, MOST16, 0],
-        };
-    }
-    Limits {
-        count: 0,
-        most: [0, 0, 0],
-    }
-}
-
 // The fields of a record's kind, 1 to 11; there are no others, and 0, the end, is no record.
-fn record_limits(kind: u32) -> Limits
-    ensures { Limited (record_kinds kind) result.count result.most }
+fn fields_of_record(kind: u32) -> Option<&'static [u32]>
+    ensures { fields_known result ≡ record_kinds kind }
 {
-    match kind {
-        1 => Limits {
-            count: 2,
-            most: [MOST16, MOST32, 0],
-        },
-        2 => Limits {
-            count: 1,
-            most: [MOST16, 0, 0],
-        },
-        3 | 4 | 8 | 9 => Limits {
-            count: 2,
-            most: [MOST16, MOST16, 0],
-        },
-        5 | 6 | 7 | 10 => Limits {
-            count: 3,
-            most: [MOST16, MOST16, MOST16],
-        },
-        11 => Limits {
-            count: 1,
-            most: [MOST32, 0, 0],
-        },
-        _ => Limits {
-            count: 0,
-            most: [0, 0, 0],
-        },
+    if kind == 0 {
+        return None;
     }
+    fields_of_kind(kind)
 }
 
-// Takes a number for each limit, from the number `at` on, and stores their bytes from `to` on. Answers 23 where a number is above
-// its limit, 4294967295 where the list ends too soon. A number has at most five bytes, so no place is too large.
-fn put_fields(fields: Limits, numbers: &[u32], at: usize, bytes: &mut [u8], to: usize) -> Took
-    requires { (fields.count ≤ 3) × (at ≤ length numbers.now) × (to ≤ 5 * at) }
-    ensures { Takes (take_fields (take fields.count fields.most) (drop at numbers.now)) numbers.now bytes.old bytes.new at to result.next result.end result.answer }
+// Takes a number for each field, from the number `at` on, and stores their bytes from `to` on. Refused are a number above its limit
+// and a list that ends too soon. A number has at most five bytes, so no place is too large.
+fn put_fields(
+    fields: &[u32],
+    numbers: &[u32],
+    at: usize,
+    bytes: &mut [u8],
+    to: usize,
+) -> Result<Took, WriteFault>
+    requires { (at ≤ length numbers.now) × (to ≤ 5 * at) }
+    ensures { Takes (take_fields fields.now (drop at numbers.now)) numbers.now bytes.old bytes.new at to result }
 {
-    let count = fields.count;
-    let most = fields.most;
     let mut next = at;
     let mut end = to;
-    let mut j = 0;
-    while j < count {
+    for limit in fields {
         if numbers.len() <= next {
-            return Took {
-                next,
-                end,
-                answer: NOT_UNDERSTOOD,
-            };
+            return Err(WriteFault::NotUnderstood);
         }
         let n = numbers[next];
-        if most[j] < n {
-            return Took {
-                next,
-                end,
-                answer: TOO_LARGE,
-            };
+        if *limit < n {
+            return Err(WriteFault::TooLarge);
         }
         end = put_number(n, bytes, end);
         next += 1;
-        j += 1;
     }
-    Took {
-        next,
-        end,
-        answer: 0,
-    }
+    Ok(Took { next, end })
 }
 
-// Takes the number `at`, which names these fields, and then the fields. Answers 22 where it names none.
-fn put_entry(fields: Limits, numbers: &[u32], at: usize, bytes: &mut [u8], to: usize) -> Took
-    requires { (fields.count ≤ 3) × (at < length numbers.now) × (to ≤ 5 * at) }
-    ensures { Takes (take_named (limits fields.count fields.most) (get_or numbers.now at 0) (drop (at + 1) numbers.now)) numbers.now bytes.old bytes.new (at + 1) to result.next result.end result.answer }
+// Takes the number `at`, which names these fields, and then the fields. Refused is a number that names none.
+fn put_entry(
+    fields: Option<&[u32]>,
+    numbers: &[u32],
+    at: usize,
+    bytes: &mut [u8],
+    to: usize,
+) -> Result<Took, WriteFault>
+    requires { (at < length numbers.now) × (to ≤ 5 * at) }
+    ensures { Takes (take_named (fields_known fields.entry) (get_or numbers.now at 0) (drop (at + 1) numbers.now)) numbers.now bytes.old bytes.new (at + 1) to result }
 {
-    let count = fields.count;
-    let next = at + 1;
-    if count == 0 {
-        return Took {
-            next,
-            end: to,
-            answer: UNKNOWN,
-        };
-    }
-    let n = numbers[at];
-    let end = put_number(n, bytes, to);
-    put_fields(fields, numbers, next, bytes, end)
+    let Some(fields) = fields else {
+        return Err(WriteFault::Unknown);
+    };
+    let end = put_number(numbers[at], bytes, to);
+    put_fields(fields, numbers, at + 1, bytes, end)
 }
 
-// Stores the end: kind 0 and how many records came before it. Answers 23 where that is no number of 32 bits.
-fn put_end(records: usize, bytes: &mut [u8], to: usize) -> Wrote
+// Stores the end: kind 0 and how many records came before it, which must be a number of 32 bits. Gives back the place behind it.
+fn put_end(records: usize, bytes: &mut [u8], to: usize) -> Result<usize, WriteFault>
     requires { to + 10 < 2 ^ 64 }
-    ensures { given_back bytes.new result.count [] result.answer ≡ store bytes.old to (to_the_end (write_end records)) }
+    ensures { given_last bytes.new result ≡ store bytes.old to (to_the_end (write_end records)) }
 {
     if (MOST32 as usize) < records {
-        return Wrote {
-            count: 0,
-            answer: TOO_LARGE,
-        };
+        return Err(WriteFault::TooLarge);
     }
     let kind_end = put_number(0, bytes, to);
-    let count = put_number(records as u32, bytes, kind_end);
-    Wrote { count, answer: 0 }
+    Ok(put_number(records as u32, bytes, kind_end))
 }
 
 // Takes the records from the number `at` on, and stores their bytes and those of the end from `to` on.
-fn put_records(numbers: &[u32], at: usize, bytes: &mut [u8], to: usize) -> Wrote
+fn put_records(numbers: &[u32], at: usize, bytes: &mut [u8], to: usize) -> Result<usize, WriteFault>
     requires { (at ≤ length numbers.now) × (to ≤ 5 * at) }
-    ensures { given_back bytes.new result.count [] result.answer ≡ store bytes.old to (to_the_end (write_records 0 (drop at numbers.now))) }
+    ensures { given_last bytes.new result ≡ store bytes.old to (to_the_end (write_records 0 (drop at numbers.now))) }
 {
     let mut next = at;
     let mut end = to;
     let mut records = 0;
+    // By entries, each as long as its kind's fields.
     while next < numbers.len() {
-        let kind = numbers[next];
-        let fields = record_limits(kind);
-        let took = put_entry(fields, numbers, next, bytes, end);
-        let answer = took.answer;
-        if answer != 0 {
-            return Wrote { count: 0, answer };
-        }
+        let fields = fields_of_record(numbers[next]);
+        let took = put_entry(fields, numbers, next, bytes, end)?;
         next = took.next;
         end = took.end;
         records += 1;
@@ -214,46 +153,27 @@ fn put_records(numbers: &[u32], at: usize, bytes: &mut [u8], to: usize) -> Wrote
 
 // Goes through all the numbers and stores as many bytes as the lent ones hold. Gives back how many there are, or what refuses
 // the list.
-fn put_all(numbers: &[u32], bytes: &mut [u8]) -> Wrote
-    ensures { given_back bytes.new result.count [] result.answer ≡ store bytes.old 0 (to_the_end (Writing.write numbers.now)) }
+fn put_all(numbers: &[u32], bytes: &mut [u8]) -> Result<usize, WriteFault>
+    ensures { given_last bytes.new result ≡ store bytes.old 0 (to_the_end (Writing.write numbers.now)) }
 {
-    if numbers.len() == 0 {
-        return Wrote {
-            count: 0,
-            answer: NOT_UNDERSTOOD,
-        };
+    if numbers.is_empty() {
+        return Err(WriteFault::NotUnderstood);
     }
-    let edition = numbers[0];
-    let fields = edition_limits(edition);
-    let took = put_entry(fields, numbers, 0, bytes, 0);
-    let answer = took.answer;
-    if answer != 0 {
-        return Wrote { count: 0, answer };
-    }
-    let next = took.next;
-    let end = took.end;
-    put_records(numbers, next, bytes, end)
+    let fields = fields_of_edition(numbers[0]);
+    let took = put_entry(fields, numbers, 0, bytes, 0)?;
+    put_records(numbers, took.next, bytes, took.end)
 }
 
-// Writes the bytes of edition, M and H, of the records and of the end into the front of the lent bytes, and answers 0. Refused,
-// nothing is written: 22 for an unknown edition or kind, 23 for a number above its limit or too many records, 4294967295 for a
-// list that ends inside an entry, whichever comes first; then 25 where the lent bytes are too few.
-pub fn write(numbers: &[u32], bytes: &mut [u8]) -> Wrote
-    ensures { Writes numbers.now bytes.old bytes.new result.count result.answer }
+// Writes the bytes of edition, M and H, of the records and of the end into the front of the lent bytes, and gives back how many
+// there are. Refused, nothing is written: 22 for an unknown edition or kind, 23 for a number above its limit or too many records,
+// 4294967295 for a list that ends inside an entry, whichever comes first; then 25 where the lent bytes are too few.
+pub fn write(numbers: &[u32], bytes: &mut [u8]) -> Result<usize, WriteFault>
+    ensures { Writes numbers.now bytes.old bytes.new (count_of result) (answer_of result) }
 {
     // The first pass has no bytes to store into.
-    let mut nowhere = [0u8; 0];
-    let measured = put_all(numbers, &mut nowhere);
-    let answer = measured.answer;
-    if answer != 0 {
-        return Wrote { count: 0, answer };
-    }
-    let count = measured.count;
+    let count = put_all(numbers, &mut [])?;
     if bytes.len() < count {
-        return Wrote {
-            count: 0,
-            answer: TOO_SHORT,
-        };
+        return Err(WriteFault::TooShort);
     }
     put_all(numbers, bytes)
 }

@@ -1,7 +1,3 @@
-pub mod Accesses
-pub mod Carrying
 pub mod Findings
-pub mod Lending
-pub mod Moves
-pub mod Places
+pub mod Holding
 pub mod Stores

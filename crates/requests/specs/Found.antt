@@ -1,18 +1,16 @@
 -- What the code finds behind a register's word, and the reply that each finding leads to.
-use Rattle.std.specs.Prelude.{ℕ, ◌<◌}
+use Rattle.std.specs.Prelude.{ℕ, ◌<◌, Option, Some, None, Result, Ok, Err}
 use Rattle.requests.specs.declared.place.Place as code_place
 use Rattle.requests.specs.declared.place.Place.TheVariants.{Copy, At}
-use Rattle.requests.specs.declared.find.Named as code_named
-use Rattle.requests.specs.declared.find.Named.TheVariants.{Tuple, Nil, NotNamed}
-use Rattle.requests.specs.declared.find.Found as code_found
-use Rattle.requests.specs.declared.find.Found.TheVariants.{Slot, NotFound}
-use Rattle.requests.specs.declared.access.Got as code_got
-use Rattle.requests.specs.declared.access.Got.TheVariants.{Given, Refused}
+use Rattle.requests.specs.declared.find.Slot.{Slot}
+use Rattle.requests.specs.declared.refusal.Refusal.{Refusal}
 use Rattle.rules.specs.Parts.{Box}
 use Rattle.rules.specs.Box.{Reply, reply, put_register}
 use Rattle.rules.specs.Place.{Place, copy_place, at}
 use Rattle.rules.specs.Request.{done}
+use Rattle.collector.specs.declared.word.Word as code_word
 use Rattle.collector.specs.Boxed.{word_of}
+use Rattle.requests.specs.Refused.{number}
 
 abbrev pub place_of : code_place.Place → Place
 place_of Copy = copy_place
@@ -23,33 +21,33 @@ abbrev pub Within : code_place.Place → ℕ → Type 0
 Within Copy m = Unit
 Within (At a) m = a < m
 
--- a tuple, nil, or a refusal with its number
-abbrev pub when_named : code_named.Named → Box → Reply → (ℕ → Reply) → Reply
-when_named (Tuple h) b at_nil found = found h
-when_named Nil b at_nil found = at_nil
-when_named (NotNamed a) b at_nil found = reply b a
+-- a tuple, nil, or a refusal
+abbrev pub when_named : Result (Option ℕ) Refusal → Box → Reply → (ℕ → Reply) → Reply
+when_named (Ok (Some h)) b at_nil found = found h
+when_named (Ok None) b at_nil found = at_nil
+when_named (Err e) b at_nil found = reply b (number e)
 
 -- the tuple can be looked up in a directory of so many entries
-abbrev pub RightName : code_named.Named → ℕ → Type 0
-RightName (Tuple h) entries = h < entries
-RightName Nil entries = Unit
-RightName (NotNamed a) entries = Unit
+abbrev pub RightName : Result (Option ℕ) Refusal → ℕ → Type 0
+RightName (Ok (Some h)) entries = h < entries
+RightName (Ok None) entries = Unit
+RightName (Err e) entries = Unit
 
 -- what is done with a word of a tuple, by its handle and its place
 abbrev pub Use : Type 0
 Use = ℕ → Place → Reply
 
--- a word of a tuple, by its handle and its place, or a refusal with its number
-abbrev pub when_found : code_found.Found → Box → Use → Reply
-when_found (Slot h p) b found = found h (place_of p)
-when_found (NotFound a) b found = reply b a
+-- a word of a tuple, by its handle and its place, or a refusal
+abbrev pub when_found : Result Slot Refusal → Box → Use → Reply
+when_found (Ok s) b found = found s.tuple (place_of s.place)
+when_found (Err e) b found = reply b (number e)
 
 -- the tuple can be looked up, and the place touched, in a box of m words and h entries
-abbrev pub RightSlot : code_found.Found → ℕ → ℕ → Type 0
-RightSlot (Slot t p) m h = (t < h) × Within p m
-RightSlot (NotFound a) m h = Unit
+abbrev pub RightSlot : Result Slot Refusal → ℕ → ℕ → Type 0
+RightSlot (Ok s) m h = (s.tuple < h) × Within s.place m
+RightSlot (Err e) m h = Unit
 
--- register r takes the word, or a refusal with its number
-abbrev pub when_got : code_got.Got → ℕ → Box → Reply
-when_got (Given w) r b = done (put_register r (word_of w) b)
-when_got (Refused a) r b = reply b a
+-- register r takes the word, or a refusal
+abbrev pub when_got : Result code_word.Word Refusal → ℕ → Box → Reply
+when_got (Ok w) r b = done (put_register r (word_of w) b)
+when_got (Err e) r b = reply b (number e)

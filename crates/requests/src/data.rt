@@ -1,123 +1,83 @@
-// The requests that only move or compare registers, SETD, NIL, MOVE, ADVANCE and SAME; and how a register takes what was found.
+// The requests that only move or compare registers: SETD, NIL, MOVE, ADVANCE and SAME.
 ghost use Rattle.std.specs.Prelude.{◌≡◌, ◌<◌};
-ghost use Rattle.rules.specs.Box.{data_word, pointer, register, put_register};
-ghost use Rattle.rules.specs.Request.{done, advance, same_word, same};
-ghost use Rattle.collector.specs.Boxed.{word_of};
-ghost use Rattle.lent.specs.Lent.{Leaves};
-ghost use Rattle.requests.specs.Found.{when_got};
+ghost use Rattle.rules.specs.Box.{reply, data_word, pointer, register, put_register};
+ghost use Rattle.rules.specs.Request.{done, advance, same};
+ghost use Rattle.lent.specs.Lent.{box_of, SameReferences};
+ghost use Rattle.requests.specs.Refused.{answer_of};
 
-use crate::access::Got;
+use crate::refusal::Refusal;
 use collector::{Word, packed};
-use lent::{put_register, register};
+use lent::MemoryUnit;
 
-// Whether two words have the same bits and the same flag.
-fn same_word(v: Word, w: Word) -> bool
-    ensures { result ≡ same_word (word_of v) (word_of w) }
-{
-    if v.bits == w.bits {
-        return v.flag == w.flag;
-    }
-    false
-}
-
-// Register r becomes a word. Answers 0.
-fn set_register(r: u16, w: Word, numbers: &mut [u32; 22], switches: &mut [bool; 11]) -> u32
+// Register r becomes data v.
+pub(crate) fn set_data(unit: &mut MemoryUnit<'_>, r: u16, v: u32)
     requires { r < 8 }
-    ensures { Leaves numbers.old switches.old numbers.new switches.new result (λ b. done (put_register r (word_of w) b)) }
+    ensures same_references { SameReferences unit.old unit.new }
+    ensures set { box_of unit.new ≡ put_register r (data_word v) (box_of unit.old) }
 {
-    put_register(r, w, numbers, switches);
-    0
-}
-
-// Register r becomes data v. Answers 0.
-pub(crate) fn set_data(r: u16, v: u32, numbers: &mut [u32; 22], switches: &mut [bool; 11]) -> u32
-    requires { r < 8 }
-    ensures { Leaves numbers.old switches.old numbers.new switches.new result (λ b. done (put_register r (data_word v) b)) }
-{
-    set_register(
+    unit.put_register(
         r,
         Word {
             bits: v,
             flag: false,
         },
-        numbers,
-        switches,
-    )
+    );
 }
 
-// Register r becomes nil. Answers 0.
-pub(crate) fn set_nil(r: u16, numbers: &mut [u32; 22], switches: &mut [bool; 11]) -> u32
+// Register r becomes nil.
+pub(crate) fn set_nil(unit: &mut MemoryUnit<'_>, r: u16)
     requires { r < 8 }
-    ensures { Leaves numbers.old switches.old numbers.new switches.new result (λ b. done (put_register r (pointer 0 0) b)) }
+    ensures same_references { SameReferences unit.old unit.new }
+    ensures set { box_of unit.new ≡ put_register r (pointer 0 0) (box_of unit.old) }
 {
-    set_register(
+    unit.put_register(
         r,
         Word {
             bits: 0,
             flag: true,
         },
-        numbers,
-        switches,
-    )
+    );
 }
 
-// Register r becomes what register s holds. Answers 0.
-pub(crate) fn move_register(
-    r: u16,
-    s: u16,
-    numbers: &mut [u32; 22],
-    switches: &mut [bool; 11],
-) -> u32
+// Register r becomes what register s holds.
+pub(crate) fn move_register(unit: &mut MemoryUnit<'_>, r: u16, s: u16)
     requires { (r < 8) × (s < 8) }
-    ensures { Leaves numbers.old switches.old numbers.new switches.new result (λ b. done (put_register r (register s b) b)) }
+    ensures same_references { SameReferences unit.old unit.new }
+    ensures set { box_of unit.new ≡ put_register r (register s (box_of unit.old)) (box_of unit.old) }
 {
-    let word = register(s, numbers, switches);
-    set_register(r, word, numbers, switches)
+    let word = unit.register(s);
+    unit.put_register(r, word);
 }
 
-// The offset in register r grows by n. Answers 0; 2 for data, 4 past 65,535, and then nothing is changed.
-pub(crate) fn advance(r: u16, n: u16, numbers: &mut [u32; 22], switches: &mut [bool; 11]) -> u32
+// The offset in register r grows by n. Refused for data and past 65,535, and then nothing is changed.
+#[tactic(auto, unfolding(rules::specs::Request::advance))]
+pub(crate) fn advance(unit: &mut MemoryUnit<'_>, r: u16, n: u16) -> Result<(), Refusal>
     requires { r < 8 }
-    ensures { Leaves numbers.old switches.old numbers.new switches.new result (λ b. advance r n b) }
+    ensures same_references { SameReferences unit.old unit.new }
+    ensures answered { reply (box_of unit.new) (answer_of result) ≡ advance r n (box_of unit.old) }
 {
-    let word = register(r, numbers, switches);
-    if word.flag {
-        let offset = word.offset() + n as u32;
-        if 65536 <= offset {
-            return 4;
-        }
-        let bits = packed(word.handle(), offset);
-        return set_register(r, Word { bits, flag: true }, numbers, switches);
+    let word = unit.register(r);
+    if !word.flag {
+        return Err(Refusal::Data);
     }
-    2
+    let offset = word.offset() + n as u32;
+    if 65536 <= offset {
+        return Err(Refusal::TooFar);
+    }
+    let bits = packed(word.handle(), offset);
+    unit.put_register(r, Word { bits, flag: true });
+    Ok(())
 }
 
-// Register r becomes data 1 if s and t are equal in word and flag, otherwise data 0. Answers 0.
-pub(crate) fn same(
-    r: u16,
-    s: u16,
-    t: u16,
-    numbers: &mut [u32; 22],
-    switches: &mut [bool; 11],
-) -> u32
+// Register r becomes data 1 if s and t are equal in word and flag, otherwise data 0.
+#[tactic(auto, unfolding(rules::specs::Request::same, rules::specs::Request::same_word))]
+pub(crate) fn same(unit: &mut MemoryUnit<'_>, r: u16, s: u16, t: u16)
     requires { (r < 8) × (s < 8) × (t < 8) }
-    ensures { Leaves numbers.old switches.old numbers.new switches.new result (λ b. same r s t b) }
+    ensures same_references { SameReferences unit.old unit.new }
+    ensures answered { done (box_of unit.new) ≡ same r s t (box_of unit.old) }
 {
-    let left = register(s, numbers, switches);
-    let right = register(t, numbers, switches);
-    if same_word(left, right) {
-        return set_data(r, 1, numbers, switches);
-    }
-    set_data(r, 0, numbers, switches)
-}
-
-// Register r takes the word that was found. Answers 0, or what refuses it, and then nothing is changed.
-pub(crate) fn take(r: u16, g: Got, numbers: &mut [u32; 22], switches: &mut [bool; 11]) -> u32
-    requires { r < 8 }
-    ensures { Leaves numbers.old switches.old numbers.new switches.new result (λ b. when_got g r b) }
-{
-    match g {
-        Got::Given(word) => set_register(r, word, numbers, switches),
-        Got::Refused(answer) => answer,
-    }
+    let left = unit.register(s);
+    let right = unit.register(t);
+    let equal = left == right;
+    set_data(unit, r, equal as u32);
 }

@@ -1,11 +1,13 @@
 // Where a word of a tuple is (document 01), and reading it there.
-ghost use Rattle.std.specs.Prelude.{Bool, List, ◌≡◌, ℕ, ◌<◌, length};
+ghost use Rattle.std.specs.Prelude.{Bool, true, List, ◌≡◌, ℕ, ◌<◌, length};
 ghost use Rattle.rules.specs.Parts.{Registers, Box};
 ghost use Rattle.rules.specs.Place.{place, in_memory, read};
 ghost use Rattle.collector.specs.Boxed.{boxed, word_of};
+ghost use Rattle.lent.specs.Lent.{box_of, state_in, HasColumns};
 ghost use Rattle.requests.specs.Found.{place_of, Within};
 
 use collector::{State, Word};
+use lent::MemoryUnit;
 
 // The copy register, or an address, which may lie outside memory.
 #[derive(Clone, Copy)]
@@ -16,7 +18,8 @@ pub enum Place {
 
 // Where index i of tuple h is. Of the tuple being moved, which is the collector's tuple in phase 5, 6 or 7, the words before index are behind
 // dest already, and in phase 6 or 7 the word at index is in the copy register; every other word is behind h's address. No test asks what
-// those before it on the same path have settled.
+// those before it on the same path have settled; that is M-101's, and so the tests stay a row of `if`s (docs/DECISIONS.md says what a `match` of
+// the phase cost).
 pub(crate) fn find_place(s: State, h: u32, i: u32, addresses: &[u32]) -> Place
     requires { (length addresses.now ≡ s.h) × (h < s.h) }
     ensures { (q : Registers) (ws : List ℕ) (fs : List Bool) (ss ls : List ℕ) (ms ds : List Bool) → place_of result ≡ place h i (boxed q ws fs addresses.now ss ls ms ds s) }
@@ -50,8 +53,10 @@ pub(crate) fn find_place(s: State, h: u32, i: u32, addresses: &[u32]) -> Place
 }
 
 // Whether a place is the copy register or an address below m.
+#[tactic(auto, unfolding(rules::specs::Place::in_memory))]
 pub(crate) fn in_memory(m: u32, p: Place) -> bool
-    ensures { (b : Box) → b.m ≡ m → result ≡ in_memory (place_of p) b }
+    ensures tested { (b : Box) → b.m ≡ m → result ≡ in_memory (place_of p) b }
+    ensures within { result ≡ true → Within p m }
 {
     let words = m as usize;
     match p {
@@ -61,18 +66,23 @@ pub(crate) fn in_memory(m: u32, p: Place) -> bool
 }
 
 // The word at a place.
-pub(crate) fn read(s: State, p: Place, words: &[u32], flags: &[bool]) -> Word
-    requires { (length words.now ≡ s.m) × (length flags.now ≡ s.m) × Within p s.m }
-    ensures { (q : Registers) (ads ss ls : List ℕ) (ms ds : List Bool) → word_of result ≡ read (place_of p) (boxed q words.now flags.now ads ss ls ms ds s) }
+#[tactic(auto, unfolding(rules::specs::Place::read))]
+pub(crate) fn read(unit: &MemoryUnit<'_>, p: Place) -> Word
+    requires columns { HasColumns unit.now }
+    requires within { Within p (state_in unit.now).m }
+    ensures { word_of result ≡ read (place_of p) (box_of unit.now) }
 {
     match p {
-        Place::Copy => Word {
-            bits: s.copy,
-            flag: s.copy_flag,
-        },
+        Place::Copy => {
+            let state = unit.state();
+            Word {
+                bits: state.copy,
+                flag: state.copy_flag,
+            }
+        }
         Place::At(a) => Word {
-            bits: words[a],
-            flag: flags[a],
+            bits: unit.words[a],
+            flag: unit.flags[a],
         },
     }
 }

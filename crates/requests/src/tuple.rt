@@ -1,64 +1,52 @@
 // GETM: a new tuple, at once or put on hold.
-ghost use Rattle.std.specs.Prelude.{Bool, true, List, ◌≡◌, ℕ, ◌<◌, length};
-ghost use Rattle.rules.specs.Box.{reply, sound};
+ghost use Rattle.std.specs.Prelude.{true, false, ◌≡◌, ◌<◌, length, set};
+ghost use Rattle.rules.specs.Box.{reply};
 ghost use Rattle.rules.specs.Request.{put_on_hold, getm};
-ghost use Rattle.lent.specs.Lent.{lent};
+ghost use Rattle.lent.specs.Lent.{box_of, HasColumns, SameReferences};
+ghost use Rattle.requests.specs.Refused.{answer_of};
 
-use lent::{make, taken};
+use crate::refusal::Refusal;
+use lent::MemoryUnit;
 
-// Puts a GETM on hold; no cycle has begun under it yet.
-fn put_on_hold(
-    r: u16,
-    n: u16,
-    tag: u16,
-    numbers: &[u32; 22],
-    switches: &mut [bool; 11],
-    hold: &mut [u16; 3],
-)
-    requires { (length switches.old ≡ 11) × (length hold.old ≡ 3) }
-    ensures { (ws : List ℕ) (fs : List Bool) (ads ss ls : List ℕ) (ms ds : List Bool) → lent numbers.now switches.new hold.new ws fs ads ss ls ms ds ≡ put_on_hold r n tag (lent numbers.now switches.old hold.old ws fs ads ss ls ms ds) }
+// A request is held, and no cycle has begun under it yet. It takes a slice, as the stores of the copy register do.
+fn begin_hold(switches: &mut [bool])
+    requires { length switches.old ≡ 11 }
+    ensures long { length switches.old ≡ 11 }
+    ensures stored { switches.new ≡ set (set switches.old 9 true) 10 false }
 {
     switches[9] = true;
     switches[10] = false;
-    hold[0] = r;
-    hold[1] = n;
-    hold[2] = tag;
 }
 
-// GETM: a new tuple of n words, and register r points to it. Answers 0; 5 where n + 1 is above M; 7 where there is no room, and then
-// only the hold is set; 9 where it cannot be made.
-pub(crate) fn getm(
-    r: u16,
-    n: u16,
-    tag: u16,
-    numbers: &mut [u32; 22],
-    switches: &mut [bool; 11],
-    hold: &mut [u16; 3],
-    words: &mut [u32],
-    flags: &mut [bool],
-    addresses: &mut [u32],
-    sizes: &mut [u32],
-    links: &[u32],
-    marks: &mut [bool],
-    deeps: &mut [bool],
-) -> u32
-    requires { (sound (lent numbers.old switches.old hold.old words.old flags.old addresses.old sizes.old links.now marks.old deeps.old) ≡ true) × (r < 8) }
-    ensures { reply (lent numbers.new switches.new hold.new words.new flags.new addresses.new sizes.new links.now marks.new deeps.new) result ≡ getm r n tag (lent numbers.old switches.old hold.old words.old flags.old addresses.old sizes.old links.now marks.old deeps.old) }
+// Puts a GETM on hold.
+fn put_on_hold(unit: &mut MemoryUnit<'_>, r: u16, n: u16, tag: u16)
+    ensures same_references { SameReferences unit.old unit.new }
+    ensures held { box_of unit.new ≡ put_on_hold r n tag (box_of unit.old) }
 {
-    let state = taken(numbers, switches, hold);
-    let size = n as u32;
-    if state.m <= size {
-        return 5;
+    begin_hold(unit.switches);
+    *unit.hold = [r, n, tag];
+}
+
+// GETM: a new tuple of n words, and register r points to it. Refused where n + 1 is above M, where there is no room, and then only the hold
+// is set, and where it cannot be made.
+#[tactic(auto, unfolding(rules::specs::Request::getm))]
+pub(crate) fn getm(unit: &mut MemoryUnit<'_>, r: u16, n: u16, tag: u16) -> Result<(), Refusal>
+    requires columns { HasColumns unit.old }
+    requires register { r < 8 }
+    ensures same_references { SameReferences unit.old unit.new }
+    ensures answered { reply (box_of unit.new) (answer_of result) ≡ getm r n tag (box_of unit.old) }
+{
+    let state = unit.state();
+    if state.m <= n as u32 {
+        return Err(Refusal::TooLarge);
     }
     if state.no_room(n) {
-        put_on_hold(r, n, tag, numbers, switches, hold);
-        return 7;
+        put_on_hold(unit, r, n, tag);
+        return Err(Refusal::NoRoom);
     }
-    if state.can_make(n) {
-        make(
-            r, n, tag, numbers, switches, hold, words, flags, addresses, sizes, links, marks, deeps,
-        );
-        return 0;
+    if !state.can_make(n) {
+        return Err(Refusal::Outside);
     }
-    9
+    unit.make(r, n, tag);
+    Ok(())
 }

@@ -84,7 +84,7 @@ module _ (b c : Box) (k : Keeps b c) where
   unfolding list_next
   next_keeps h = link_keeps b (with_next h c) (record { outline_same = k.outline_same; phase_low = k.phase_low }) h c.collector.next
 
-shade_keeps : (h : ℕ) (b : Box) → Keeps b (shade h b)
+pub shade_keeps : (h : ℕ) (b : Box) → Keeps b (shade h b)
 unfolding shade
 shade_keeps h b =
     let k = live_keeps b b (same b) h in
@@ -124,11 +124,11 @@ unfolding write
 write_keeps copy_place w b c k = record { outline_same = k.outline_same; phase_low = k.phase_low }
 write_keeps (at a) w b c k = put_keeps b c k a w
 
-first_keeps : (w : Word) (b : Box) → Keeps b (shaded_first w b)
+pub first_keeps : (w : Word) (b : Box) → Keeps b (shaded_first w b)
 unfolding shaded_first
 first_keeps w b = chosen (shades w b) b (shade (handle_of w) b) b (shade_keeps (handle_of w) b) (same b)
 
-deepened_keeps : (w : Word) (h : ℕ) (b c : Box) → Keeps b c → Keeps b (deepened w h c)
+pub deepened_keeps : (w : Word) (h : ℕ) (b c : Box) → Keeps b c → Keeps b (deepened w h c)
 unfolding deepened
 deepened_keeps w h b c k = chosen (names_tuple w) b (set_deep h true c) c (deep_keeps b c k h true) k
 

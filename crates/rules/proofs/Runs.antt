@@ -2,9 +2,8 @@
 -- between its first state and its last. Assumes nothing.
 use Prim.Native.Nat.{ℕ, zero, suc}
 use mathlib.Core.Bool.{Bool, true, false, cond, ◌||◌}
-use mathlib.Core.Logic.{◌≢◌}
-use mathlib.Core.Path.{◌≡◌, refl, sym, ap}
-use borrow.Author.Tests.{eq-eqb, ne_eqb}
+use mathlib.Core.Path.{◌≡◌, refl, ap}
+use borrow.Author.Tests.{eq-eqb}
 use lib.Dec.{eqb}
 use Rattle.rules.specs.Parts.{Box}
 use Rattle.rules.specs.Box.{sound}
@@ -47,18 +46,6 @@ course_nine a e = simp (eq-eqb a 9 e)
 -- what a step's answer makes the run's answer, 11 where the run goes on
 abbrev pub outcome_of : ℕ → ℕ
 outcome_of a = cond (eqb a 9) 9 (cond (eqb a 8) 8 (cond (eqb a 31 || eqb a 32) 0 11))
-
-pub outcome_nine : (a : ℕ) → a ≡ 9 → 9 ≡ outcome_of a
-outcome_nine a e = sym (ap outcome_of e)
-
-pub outcome_eight : (a : ℕ) → a ≡ 8 → 8 ≡ outcome_of a
-outcome_eight a e = sym (ap outcome_of e)
-
-pub outcome_ended : (a : ℕ) → a ≡ 31 → 0 ≡ outcome_of a
-outcome_ended a e = sym (ap outcome_of e)
-
-pub outcome_last : (a r : ℕ) → a ≢ 9 → a ≢ 8 → a ≢ 31 → r ≡ cond (eqb a 32) 0 11 → r ≡ outcome_of a
-outcome_last a r n x y e = simp (ne_eqb a 9 n, ne_eqb a 8 x, ne_eqb a 31 y) e
 
 -- ---- the count
 

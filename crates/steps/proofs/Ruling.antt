@@ -2,17 +2,18 @@
 -- the tests that are made once over the whole of a run. Assumes nothing.
 use Prim.Native.Nat.{ℕ, zero, suc}
 use mathlib.Core.Bool.{Bool, true, false, cond}
-use mathlib.Core.Path.{◌≡◌, refl, sym, ap, ◌∙◌, subst}
+use mathlib.Core.Path.{◌≡◌, sym, ap, ◌∙◌}
 use lib.Dec.{eqb}
 use Rattle.rules.specs.Parts.{Box}
 use Rattle.rules.specs.Box.{Reply, reply, sound}
 use Rattle.rules.specs.Collector.{granted, rule_of, step}
 use Rattle.rules.specs.Run.{Ran, ran, counted}
-use Rattle.rules.specs.Answers.{Lengths}
-use Rattle.rules.proofs.Sizes.{Ranges}
-use Rattle.rules.proofs.Kept.{Outline, outline, rule_keeps, step_keeps, step_sound}
+use Rattle.rules.proofs.Kept.{outline, rule_keeps, step_sound}
 use Rattle.collector.specs.Decide.{with_grant}
 use Rattle.collector.proofs.Granting.{ungranted}
+use Rattle.lent.specs.declared.unit.MemoryUnit.{MemoryUnit}
+use Rattle.lent.specs.Lent.{box_of, HasColumns, SameReferences}
+use Rattle.lent.proofs.Columns.{sound_columns, columns_kept}
 use Rattle.phases.proofs.Landing.{grant_outline}
 use Rattle.steps.specs.Stretch.{stretch}
 
@@ -33,43 +34,16 @@ module _ (b : Box) where
 
 -- ---- what a rule leaves has the sizes and lengths of what it found
 
-pub ruled_outline : (p : ℕ) (b x : Box) (a : ℕ) → with_grant (reply x a) ≡ rule_of p b → outline x ≡ outline b
+ruled_outline : (p : ℕ) (b x : Box) (a : ℕ) → with_grant (reply x a) ≡ rule_of p b → outline x ≡ outline b
 ruled_outline p b x a e = sym (grant_outline x a) ∙ ap (λ (r : Reply). outline r.box) e ∙ (rule_keeps b p).outline_same
 
-module _ (b x : Box) (o : outline x ≡ outline b) where
-  pub same_lengths : Lengths b.m b.h b → Lengths x.m x.h x
-  same_lengths l =
-      let m = ap (λ (y : Outline). y.m) o in
-      let h = ap (λ (y : Outline). y.h) o in
-      record {
-        words = ap (λ (y : Outline). y.words) o ∙ l.words ∙ sym m;
-        flags = ap (λ (y : Outline). y.flags) o ∙ l.flags ∙ sym m;
-        addresses = ap (λ (y : Outline). y.addresses) o ∙ l.addresses ∙ sym h;
-        sizes = ap (λ (y : Outline). y.sizes) o ∙ l.sizes ∙ sym h;
-        links = ap (λ (y : Outline). y.links) o ∙ l.links ∙ sym h;
-        marks = ap (λ (y : Outline). y.marks) o ∙ l.marks ∙ sym h;
-        deeps = ap (λ (y : Outline). y.deeps) o ∙ l.deeps ∙ sym h;
-      }
+pub ruled_columns : (u v : MemoryUnit) (p a : ℕ) → with_grant (reply (box_of v) a) ≡ rule_of p (box_of u) → sound (box_of u) ≡ true → HasColumns v
+ruled_columns u v p a e s = columns_kept u v (ruled_outline p (box_of u) (box_of v) a e) (sound_columns u s)
 
-  pub same_ranges : Ranges b.m b.h → Ranges x.m x.h
-  same_ranges r = subst (λ (y : Outline). Ranges y.m y.h) (sym o) r
-
--- ---- a step keeps them, and a stretch does
-
-pub stepped_outline : (b x : Box) (a : ℕ) → reply x a ≡ step b → outline x ≡ outline b
-stepped_outline b x a e = ap (λ (r : Reply). outline r.box) e ∙ (step_keeps b).outline_same
+-- ---- a step keeps a box sound, and a stretch does
 
 pub stepped_sound : (b x : Box) (a : ℕ) → reply x a ≡ step b → sound b ≡ true → sound x ≡ true
 stepped_sound b x a e s = ap (λ (r : Reply). sound r.box) e ∙ step_sound b s
-
-stretch_outline : (n : ℕ) (b : Box) → outline (stretch n b).box ≡ outline b
-unfolding stretch
-stretch_outline zero b = refl
-stretch_outline (suc n) b = go (eqb (step b).answer 30) (stretch_outline n (step b).box)
-  where
-    go : (t : Bool) → outline (stretch n (step b).box).box ≡ outline (step b).box → outline (cond t (counted (stretch n (step b).box)) (ran (step b).box (step b).answer (cond (eqb (step b).answer 9) 0 1))).box ≡ outline b
-    go true h = h ∙ (step_keeps b).outline_same
-    go false h = (step_keeps b).outline_same
 
 stretch_sound : (n : ℕ) (b : Box) → sound b ≡ true → sound (stretch n b).box ≡ true
 unfolding stretch
@@ -80,9 +54,10 @@ stretch_sound (suc n) b s = go (eqb (step b).answer 30) (stretch_sound n (step b
     go true h = h
     go false h = step_sound b s
 
-module _ (n : ℕ) (b x : Box) (a k : ℕ) (e : ran x a k ≡ stretch n b) where
-  pub went_outline : outline x ≡ outline b
-  went_outline = ap (λ (r : Ran). outline r.box) e ∙ stretch_outline n b
+pub went_sound : (n : ℕ) (b x : Box) (a k : ℕ) → ran x a k ≡ stretch n b → sound b ≡ true → sound x ≡ true
+went_sound n b x a k e s = ap (λ (r : Ran). sound r.box) e ∙ stretch_sound n b s
 
-  pub went_sound : sound b ≡ true → sound x ≡ true
-  went_sound s = ap (λ (r : Ran). sound r.box) e ∙ stretch_sound n b s
+-- ---- one call after another leaves the caller's parts
+
+pub same_after : (u v w : MemoryUnit) → SameReferences u v → SameReferences v w → SameReferences u w
+same_after u v w p q = (q.0 ∙ p.0, q.1 ∙ p.1, q.2 ∙ p.2, q.3 ∙ p.3, q.4 ∙ p.4, q.5 ∙ p.5, q.6 ∙ p.6, q.7 ∙ p.7, q.8 ∙ p.8, q.9 ∙ p.9)

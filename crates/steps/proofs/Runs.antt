@@ -2,87 +2,69 @@
 -- is stretches, one after the other. By induction on the steps left. Assumes nothing.
 use Prim.Native.Nat.{ℕ, zero, suc, ◌+◌, ◌-◌, ◌≤◌, ◌<◌}
 use mathlib.Core.Bool.{Bool, true, false, cond, ◌||◌, false≢true}
+use mathlib.Core.Logic.{◌≢◌}
 use mathlib.Core.Path.{◌≡◌, refl, sym, ◌∙◌, ap}
 use native.Mathlib.Omega.{arith}
-use borrow.Author.Tests.{eqb-true}
+use borrow.Author.Tests.{eqb-true, ne_eqb}
 use lib.Dec.{eqb}
 use Rattle.rules.specs.Parts.{Box}
 use Rattle.rules.specs.Box.{Reply, reply, sound}
 use Rattle.rules.specs.Collector.{step}
 use Rattle.rules.specs.Run.{Ran, ran, counted, course, run_on, run}
 use Rattle.rules.proofs.AsFound.{step_found}
-use Rattle.rules.proofs.Runs.{outcome_of, run_goes, run_stops, run_refuses, course_nine}
+use Rattle.rules.proofs.Runs.{outcome_of, run_sound, run_goes, run_stops, run_refuses, course_nine}
 use Rattle.steps.specs.Stretch.{stretch}
 
 -- so many steps before what follows
-abbrev later : ℕ → Ran → Ran
+abbrev pub later : ℕ → Ran → Ran
 later k r = ran r.box r.answer (k + r.steps)
 
 same_count : (b : Box) (a n m : ℕ) → n ≡ m → ran b a n ≡ ran b a m
 same_count b a n m e = ap (ran b a) e
 
--- ---- the loop of single steps: so many are done, and so many are left
+-- ---- the loop of single steps
 
-pub stretched : ℕ → ℕ → ℕ → Box → Ran
-stretched a done zero b = ran b a done
-stretched a done (suc n) b = later done (stretch (suc n) b)
+module _ (most done : ℕ) (b x : Box) (a : ℕ) (l : done < most) (e : reply x a ≡ step b) where
+  rest : ℕ
+  rest = most - (done + 1)
 
-pub stretch_starts : (most : ℕ) (b : Box) → stretched 30 0 most b ≡ stretch most b
-unfolding stretched stretch
-stretch_starts zero b = refl
-stretch_starts (suc n) b = same_count _ _ _ _ (omega arith)
+  by_first : Reply → Ran
+  by_first r = cond (eqb r.answer 30) (counted (stretch rest r.box)) (ran r.box r.answer (cond (eqb r.answer 9) 0 1))
 
-stretch_left : (k n : ℕ) (b : Box) → stretched 30 k n b ≡ later k (stretch n b)
-unfolding stretched stretch
-stretch_left k zero b = same_count _ _ _ _ (omega arith)
-stretch_left k (suc n) b = refl
+  first : stretch (most - done) b ≡ by_first (reply x a)
+  unfolding stretch by_first rest
+  first = ap (λ (k : ℕ). stretch k b) one_more_left ∙ ap by_first (sym e)
+    where
+      one_more_left : most - done ≡ suc (most - (done + 1))
+      one_more_left = omega arith
 
-pub stretch_turn : (a done left : ℕ) (b after : Box) (x m d : ℕ) → 0 < left → reply after x ≡ step b → m ≡ cond (eqb x 30) (left - 1) 0 → d ≡ cond (eqb x 9) done (done + 1) → stretched x d m after ≡ stretched a done left b
-unfolding stretched stretch
-stretch_turn a done zero b after x m d l s f g = absurd (omega arith)
-stretch_turn a done (suc n) b after x m d l s f g =
-    ap (λ (c : Box). stretched x d m c) (ap (λ (r : Reply). r.box) s)
-    ∙ ap (λ (k : ℕ). stretched k d m (step b).box) same_answer
-    ∙ go (eqb (step b).answer 30) (eqb (step b).answer 9) refl refl (f ∙ ap (λ (k : ℕ). cond (eqb k 30) (suc n - 1) 0) same_answer) (g ∙ ap (λ (k : ℕ). cond (eqb k 9) done (done + 1)) same_answer)
+  pub stretch_on : a ≡ 30 → later (done + 1) (stretch (most - (done + 1)) x) ≡ later done (stretch (most - done) b)
+  unfolding by_first rest
+  stretch_on z = same_count _ _ _ _ (omega arith) ∙ sym (ap (later done) (first ∙ ap (λ (y : ℕ). by_first (reply x y)) z))
+
+  pub stretch_refused : a ≡ 9 → ran x a done ≡ later done (stretch (most - done) b)
+  unfolding by_first
+  stretch_refused z = ap (λ (y : ℕ). ran x y done) z ∙ same_count _ _ _ _ (omega arith) ∙ sym (ap (later done) (first ∙ ap (λ (y : ℕ). by_first (reply x y)) z))
+
+  pub stretch_stops : a ≢ 30 → a ≢ 9 → ran x a (done + 1) ≡ later done (stretch (most - done) b)
+  unfolding by_first
+  stretch_stops p q = sym (ap (later done) (first ∙ stopped))
+    where
+      stopped : by_first (reply x a) ≡ ran x a 1
+      stopped = simp (ne_eqb a 30 p, ne_eqb a 9 q)
+
+pub stretch_starts : (most : ℕ) (b : Box) → later 0 (stretch (most - 0) b) ≡ stretch most b
+stretch_starts most b = ap (λ (n : ℕ). later 0 (stretch n b)) whole ∙ same_count _ _ _ _ (omega arith)
   where
-    same_answer : x ≡ (step b).answer
-    same_answer = ap (λ (r : Reply). r.answer) s
+    whole : most - 0 ≡ most
+    whole = omega arith
 
-    both : eqb (step b).answer 30 ≡ true → eqb (step b).answer 9 ≡ true → ⊥
-    both p q = let e = eqb-true (step b).answer 30 p in let h = eqb-true (step b).answer 9 q in omega arith
-
-    go : (t u : Bool) → eqb (step b).answer 30 ≡ t → eqb (step b).answer 9 ≡ u → m ≡ cond t (suc n - 1) 0 → d ≡ cond u done (done + 1)
-        → stretched (step b).answer d m (step b).box ≡ later done (cond t (counted (stretch n (step b).box)) (ran (step b).box (step b).answer (cond u 0 1)))
-    go true true p q e h = absurd (both p q)
-    go true false p q e h =
-        ap (λ (k : ℕ). stretched k d m (step b).box) (eqb-true (step b).answer 30 p)
-        ∙ ap (λ (k : ℕ). stretched 30 k m (step b).box) h
-        ∙ ap (λ (k : ℕ). stretched 30 (done + 1) k (step b).box) (e ∙ less)
-        ∙ stretch_left (done + 1) n (step b).box
-        ∙ same_count _ _ _ _ (omega arith)
-      where
-        less : suc n - 1 ≡ n
-        less = omega arith
-    go false true p q e h = ap (λ (k : ℕ). stretched (step b).answer d k (step b).box) e ∙ same_count _ _ _ _ (omega arith)
-    go false false p q e h = ap (λ (k : ℕ). stretched (step b).answer d k (step b).box) e ∙ same_count _ _ _ _ h
-
-pub stretch_ends : (a done left : ℕ) (b : Box) → left ≤ 0 → ran b a done ≡ stretched a done left b
-unfolding stretched
-stretch_ends a done zero b l = refl
-stretch_ends a done (suc n) b l = absurd (omega arith)
-
--- the steps done and those left stay within the most, and those left fall
-pub stretch_fits : (most done left x m d : ℕ) → 0 < left → done + left ≤ most → m ≡ cond (eqb x 30) (left - 1) 0 → d ≡ cond (eqb x 9) done (done + 1) → (d + m ≤ most) × (m < left)
-stretch_fits most done left x m d l h f g = go (eqb x 30) (eqb x 9) f g
+pub stretch_spent : (most done : ℕ) (b : Box) → done ≡ most → ran b 30 most ≡ later done (stretch (most - done) b)
+unfolding stretch
+stretch_spent most done b e = same_count _ _ _ _ (omega arith) ∙ ap (λ (k : ℕ). later done (stretch k b)) none_left
   where
-    go : (t u : Bool) → m ≡ cond t (left - 1) 0 → d ≡ cond u done (done + 1) → (d + m ≤ most) × (m < left)
-    go true true e k = (omega arith, omega arith)
-    go true false e k = (omega arith, omega arith)
-    go false true e k = (omega arith, omega arith)
-    go false false e k = (omega arith, omega arith)
-
-pub room_left : (done left most bound : ℕ) → 0 < left → done + left ≤ most → most < bound → done + 1 < bound
-room_left done left most bound l h f = omega arith
+    none_left : 0 ≡ most - done
+    none_left = omega arith
 
 -- one step is a stretch of one
 pub stretch_one : (b t : Box) (a n : ℕ) → ran t a n ≡ stretch 1 b → reply t a ≡ step b
@@ -183,93 +165,57 @@ run_by_stretch (suc n) b = go (eqb (step b).answer 30) (eqb (step b).answer 9) (
     go false false false true p q r w ih = ended n b q r w
     go false false false false p q r w ih = held n b q r w
 
--- ---- the loop of stretches: so many steps are done, and so many of the budget are left
+-- ---- the loop of stretches: the next one leaves x, with answer a after k steps
 
-pub going : ℕ → ℕ → ℕ → Box → Ran
-going a done zero b = ran b a done
-going a done (suc n) b = later done (run_on (suc n) b)
-
-pub run_starts : (budget : ℕ) (b : Box) (t : Bool) (left a : ℕ) → t ≡ sound b → left ≡ cond t budget 0 → a ≡ cond t 11 9 → going a 0 left b ≡ run budget b
-unfolding going run run_on
-run_starts budget b t left a e l x = ap (λ (n : ℕ). going n 0 left b) x ∙ ap (λ (n : ℕ). going (cond t 11 9) 0 n b) l ∙ go t budget ∙ ap (λ (u : Bool). cond u (run_on budget b) (ran b 9 0)) e
+pub run_starts : (budget : ℕ) (b : Box) → sound b ≡ true → later 0 (run_on (budget - 0) b) ≡ run budget b
+run_starts budget b s = ap (λ (n : ℕ). later 0 (run_on n b)) whole ∙ same_count _ _ _ _ (omega arith) ∙ sym (run_sound budget b s)
   where
-    go : (u : Bool) (n : ℕ) → going (cond u 11 9) 0 (cond u n 0) b ≡ cond u (run_on n b) (ran b 9 0)
-    go false n = refl
-    go true zero = refl
-    go true (suc n) = ap (ran (run_on (suc n) b).box (run_on (suc n) b).answer) (omega arith)
+    whole : budget - 0 ≡ budget
+    whole = omega arith
 
-going_left : (k n : ℕ) (b : Box) → going 11 k n b ≡ later k (run_on n b)
-unfolding going run_on
-going_left k zero b = same_count _ _ _ _ (omega arith)
-going_left k (suc n) b = refl
+module _ (budget done : ℕ) (b x : Box) (a k : ℕ) (l : done < budget) (e : ran x a k ≡ stretch (budget - done) b) where
+  base : run_on (budget - done) b ≡ by_stretch (budget - done) (ran x a k)
+  base = run_by_stretch (budget - done) b ∙ ap (by_stretch (budget - done)) (sym e)
 
-pub run_turn : (a done left : ℕ) (b after : Box) (x k o m d : ℕ) → 0 < left → ran after x k ≡ stretch left b → o ≡ outcome_of x → m ≡ cond (eqb o 11) (left - k) 0 → d ≡ done + k → going o d m after ≡ going a done left b
-unfolding going by_stretch
-run_turn a done zero b after x k o m d l s e f g = absurd (omega arith)
-run_turn a done (suc n) b after x k o m d l s e f g =
-    ap (λ (y : ℕ). going o y m after) g
-    ∙ go (eqb o 11) refl f
-    ∙ ap (later done) (ap (by_stretch (suc n)) s ∙ sym (run_by_stretch (suc n) b))
+  -- the steps done stay within the budget
+  pub run_fits : done + k ≤ budget
+  run_fits = let f : (stretch (budget - done) b).steps ≤ budget - done = stretch_most (budget - done) b in omega (arith, ap (λ (r : Ran). r.steps) e)
+
+  module _ (o : ℕ) (q : o ≡ outcome_of a) where
+    pub run_on_after : o ≡ 11 → later (done + k) (run_on (budget - (done + k)) x) ≡ later done (run_on (budget - done) b)
+    unfolding by_stretch
+    run_on_after z =
+        same_count _ _ _ _ (omega arith)
+        ∙ ap (λ (n : ℕ). later done (later k (run_on n x))) less
+        ∙ sym (ap (later done) (base ∙ ap (λ (y : ℕ). cond (eqb y 11) (later k (run_on (budget - done - k) x)) (ran x y k)) (sym q ∙ z)))
+      where
+        less : budget - (done + k) ≡ budget - done - k
+        less = omega arith
+
+    pub run_ends : o ≢ 11 → ran x o (done + k) ≡ later done (run_on (budget - done) b)
+    unfolding by_stretch
+    run_ends z =
+        sym (ap (later done) (base
+        ∙ ap (λ (y : ℕ). cond (eqb y 11) (later k (run_on (budget - done - k) x)) (ran x y k)) (sym q)
+        ∙ ap (λ (t : Bool). cond t (later k (run_on (budget - done - k) x)) (ran x o k)) (ne_eqb o 11 z)))
+
+    -- one that the run goes on after has a step
+    pub run_nears : o ≡ 11 → 1 ≤ k
+    run_nears z = go (eqb a 9) refl
+      where
+        some : (n : ℕ) → budget - done ≡ suc n → eqb a 9 ≡ false → 1 ≤ k
+        some n p t =
+            let f : ran x a k ≡ stretch (suc n) b = e ∙ ap (λ (y : ℕ). stretch y b) p in
+            let h : 1 ≤ (stretch (suc n) b).steps = stretch_some n b (sym (ap (λ (r : Ran). eqb r.answer 9) f) ∙ t) in
+            omega (arith, ap (λ (r : Ran). r.steps) f)
+
+        go : (t : Bool) → eqb a 9 ≡ t → 1 ≤ k
+        go false t = some (budget - (done + 1)) (omega arith) t
+        go true t = let h : o ≡ 9 = q ∙ ap outcome_of (eqb-true a 9 t) in omega arith
+
+pub run_spent : (budget done : ℕ) (b : Box) → budget ≤ done → ran b 11 done ≡ later done (run_on (budget - done) b)
+unfolding run_on
+run_spent budget done b l = same_count _ _ _ _ (omega arith) ∙ ap (λ (k : ℕ). later done (run_on k b)) none_left
   where
-    shift : (r : Ran) → later (done + k) r ≡ later done (later k r)
-    shift r = same_count _ _ _ _ (omega arith)
-
-    chosen : (t : Bool) → eqb o 11 ≡ t → later done (cond t (later k (run_on (suc n - k) after)) (ran after o k)) ≡ later done (by_stretch (suc n) (ran after x k))
-    chosen t q = ap (λ (u : Bool). later done (cond u (later k (run_on (suc n - k) after)) (ran after o k))) (sym q) ∙ ap (λ (y : ℕ). later done (cond (eqb y 11) (later k (run_on (suc n - k) after)) (ran after y k))) e
-
-    go : (t : Bool) → eqb o 11 ≡ t → m ≡ cond t (suc n - k) 0 → going o (done + k) m after ≡ later done (by_stretch (suc n) (ran after x k))
-    go true q h =
-        ap (λ (y : ℕ). going y (done + k) m after) (eqb-true o 11 q)
-        ∙ ap (λ (y : ℕ). going 11 (done + k) y after) h
-        ∙ going_left (done + k) (suc n - k) after
-        ∙ shift (run_on (suc n - k) after)
-        ∙ chosen true q
-    go false q h = ap (λ (y : ℕ). going o (done + k) y after) h ∙ chosen false q
-
-pub run_ends : (a done left : ℕ) (b : Box) → left ≤ 0 → ran b a done ≡ going a done left b
-unfolding going
-run_ends a done zero b l = refl
-run_ends a done (suc n) b l = absurd (omega arith)
-
-pub start_fits : (budget : ℕ) (t : Bool) (left : ℕ) → left ≡ cond t budget 0 → 0 + left ≤ budget
-start_fits budget true left e = omega arith
-start_fits budget false left e = omega arith
-
--- with budget left the box is sound
-pub start_sound : (b : Box) (budget : ℕ) (t : Bool) (left : ℕ) → t ≡ sound b → left ≡ cond t budget 0 → 0 < left → sound b ≡ true
-start_sound b budget true left e l o = sym e
-start_sound b budget false left e l o = absurd (omega arith)
-
--- the steps done and those left stay within the budget, and those left fall
-module _ (b after : Box) (left x k : ℕ) (l : 0 < left) (s : ran after x k ≡ stretch left b) where
-  pub steps_most : k ≤ left
-  steps_most = rw (sym (ap (λ (r : Ran). r.steps) s)) at (stretch_most left b)
-
-  some : (n : ℕ) → left ≡ suc n → eqb x 9 ≡ false → 1 ≤ k
-  some n e q =
-      let f : ran after x k ≡ stretch (suc n) b = s ∙ ap (λ (y : ℕ). stretch y b) e in
-      let h : 1 ≤ (stretch (suc n) b).steps = stretch_some n b (sym (ap (λ (r : Ran). eqb r.answer 9) f) ∙ q) in
-      omega (arith, ap (λ (r : Ran). r.steps) f)
-
-  pub run_fits : (budget done o m d : ℕ) → done + left ≤ budget → o ≡ outcome_of x → m ≡ cond (eqb o 11) (left - k) 0 → d ≡ done + k → (d + m ≤ budget) × (m < left)
-  run_fits budget done o m d h e f g = go (eqb o 11) refl f
-    where
-      not_nine : (t : Bool) → eqb x 9 ≡ t → eqb o 11 ≡ true → t ≡ false
-      not_nine false p q = refl
-      not_nine true p q = absurd (eleven (sym (e ∙ ap outcome_of (eqb-true x 9 p)) ∙ eqb-true o 11 q))
-        where
-          eleven : ◌≡◌ {A = ℕ} 9 11 → ⊥
-          eleven z = omega arith
-
-      less : eqb o 11 ≡ true → 1 ≤ k
-      less q = some (left - 1) (omega arith) (not_nine (eqb x 9) refl q)
-
-      most : k ≤ left
-      most = steps_most
-
-      go : (t : Bool) → eqb o 11 ≡ t → m ≡ cond t (left - k) 0 → (d + m ≤ budget) × (m < left)
-      go true q z = let y : 1 ≤ k = less q in (omega (arith, most), omega (arith, most))
-      go false q z = (omega (arith, most), omega arith)
-
-  pub room_for : (budget done bound : ℕ) → done + left ≤ budget → budget < bound → done + k < bound
-  room_for budget done bound h f = let y : k ≤ left = steps_most in omega arith
+    none_left : 0 ≡ budget - done
+    none_left = omega arith

@@ -3,34 +3,23 @@ ghost use Rattle.std.specs.Prelude.{◌≡◌, ◌+◌, ◌*◌, ◌<◌, ◌≤
 ghost use Rattle.std.proofs.lemmas.List.Edits.{sets};
 ghost use Rattle.rules.specs.Box.{reply, sound};
 ghost use Rattle.rules.specs.Collector.{step};
-ghost use Rattle.lent.specs.Lent.{lent};
+ghost use Rattle.lent.specs.Lent.{box_of, SameReferences};
 ghost use Rattle.pieces.specs.Text.{line};
 ghost use Rattle.trace.specs.Stepped.{Stepped};
 
+use lent::MemoryUnit;
 use pieces::put_line;
 use steps::stepped;
 
 // One step of a box of which it is known whether it is sound.
-fn one_step(
-    right: bool,
-    numbers: &mut [u32; 22],
-    switches: &mut [bool; 11],
-    hold: &[u16; 3],
-    words: &mut [u32],
-    flags: &mut [bool],
-    addresses: &mut [u32],
-    sizes: &mut [u32],
-    links: &mut [u32],
-    marks: &mut [bool],
-    deeps: &mut [bool],
-) -> u32
-    requires { sound (lent numbers.old switches.old hold.now words.old flags.old addresses.old sizes.old links.old marks.old deeps.old) ≡ right }
-    ensures { reply (lent numbers.new switches.new hold.now words.new flags.new addresses.new sizes.new links.new marks.new deeps.new) result ≡ step (lent numbers.old switches.old hold.now words.old flags.old addresses.old sizes.old links.old marks.old deeps.old) }
+#[tactic(auto, using(steps::proofs::Ruling::step_refused))]
+fn one_step(unit: &mut MemoryUnit<'_>, right: bool) -> u32
+    requires { sound (box_of unit.old) ≡ right }
+    ensures same_references { SameReferences unit.old unit.new }
+    ensures answered { reply (box_of unit.new) result ≡ step (box_of unit.old) }
 {
     if right {
-        return stepped(
-            numbers, switches, hold, words, flags, addresses, sizes, links, marks, deeps,
-        );
+        return stepped(unit).number();
     }
     9
 }
@@ -53,32 +42,20 @@ fn put_answer(a: u32, out: &mut [u8], at: usize) -> usize
 // So many single steps of a box of which it is known whether it is sound. Each answer is a line of the output, from `at` on. Gives the
 // place behind the last.
 pub fn step_lines(
+    unit: &mut MemoryUnit<'_>,
     right: bool,
     many: u32,
-    numbers: &mut [u32; 22],
-    switches: &mut [bool; 11],
-    hold: &[u16; 3],
-    words: &mut [u32],
-    flags: &mut [bool],
-    addresses: &mut [u32],
-    sizes: &mut [u32],
-    links: &mut [u32],
-    marks: &mut [bool],
-    deeps: &mut [bool],
     out: &mut [u8],
     at: usize,
 ) -> usize
-    requires { (sound (lent numbers.old switches.old hold.now words.old flags.old addresses.old sizes.old links.old marks.old deeps.old) ≡ right) × (at + 3 * many ≤ length out.old) }
-    ensures { Stepped many out.old out.new (lent numbers.old switches.old hold.now words.old flags.old addresses.old sizes.old links.old marks.old deeps.old) (lent numbers.new switches.new hold.now words.new flags.new addresses.new sizes.new links.new marks.new deeps.new) at result }
+    requires { (sound (box_of unit.old) ≡ right) × (at + 3 * many ≤ length out.old) }
+    ensures same_references { SameReferences unit.old unit.new }
+    ensures stepped { Stepped many out.old out.new (box_of unit.old) (box_of unit.new) at result }
 {
-    let mut left = many;
     let mut end = at;
-    while 0 < left {
-        let answer = one_step(
-            right, numbers, switches, hold, words, flags, addresses, sizes, links, marks, deeps,
-        );
+    for _ in 0..many {
+        let answer = one_step(unit, right);
         end = put_answer(answer, out, end);
-        left -= 1;
     }
     end
 }

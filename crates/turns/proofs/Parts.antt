@@ -12,7 +12,8 @@ use lib.Seq.{take_all, take_at, drop-length}
 use Rattle.rules.specs.Parts.{Box}
 use Rattle.rules.specs.Box.{Reply, reply, right_sizes}
 use Rattle.rules.specs.Open.{opened, opening}
-use Rattle.lent.specs.Lent.{lent}
+use Rattle.lent.specs.declared.unit.MemoryUnit.{MemoryUnit}
+use Rattle.lent.specs.Lent.{box_of, lent}
 use Rattle.pieces.specs.Pieces.{first_of, open_first}
 use Rattle.turns.specs.Parts.{part_of, behind, put_back, Opens}
 
@@ -131,26 +132,36 @@ opened_part m h b x r s e = by (right_sizes m h (first_of m h b)) refl
 
 -- ---- the lent columns
 
-module _ (ns ns1 : List ℕ) (sw sw1 : List Bool) (hd hd1 ws ws1 : List ℕ) (fs fs1 : List Bool) (ads ads1 ss ss1 ls ls1 : List ℕ) (ms ms1 ds ds1 : List Bool) where
-  -- the first words and entries of what is lent
-  pub lent_first : (m h w f a z l k d : ℕ) → w ≡ min m (length ws) → f ≡ min m (length fs) → a ≡ min h (length ads) → z ≡ min h (length ss) → l ≡ min h (length ls) → k ≡ min h (length ms) → d ≡ min h (length ds) → lent ns sw hd (take w ws) (take f fs) (take a ads) (take z ss) (take l ls) (take k ms) (take d ds) ≡ first_of m h (lent ns sw hd ws fs ads ss ls ms ds)
+-- so many words and flags, and entries of each kind, are the first m words and h entries of what is lent
+abbrev pub Counts : MemoryUnit → ℕ → ℕ → ℕ → ℕ → ℕ → ℕ → ℕ → ℕ → ℕ → Type 0
+Counts u m h w f a z l k d = (w ≡ min m (length u.words.now)) × (f ≡ min m (length u.flags.now)) × (a ≡ min h (length u.addresses.now)) × (z ≡ min h (length u.sizes.now)) × (l ≡ min h (length u.links.now)) × (k ≡ min h (length u.marks.now)) × (d ≡ min h (length u.deeps.now))
+
+-- a part that was lent on, and what came of it: what all columns are with that in place of the part
+pub record Parted (u : MemoryUnit) (m h : ℕ) (part came joined : Box) : Type 0 where
+  pub part_is : part ≡ first_of m h (box_of u)
+  pub shape : SameShape came (first_of m h (box_of u))
+  pub joined_is : joined ≡ put_back came (box_of u)
+
+-- the columns in parts of these lengths, each as long when it comes back
+module _ (u : MemoryUnit) (ns1 : List ℕ) (sw1 : List Bool) (hd1 ws1 : List ℕ) (fs1 : List Bool) (ads1 ss1 ls1 : List ℕ) (ms1 ds1 : List Bool) (m h w f a z l k d : ℕ) (n : Counts u m h w f a z l k d) where
+  abbrev part : Box
+  part = lent u.numbers.now u.switches.now u.hold.now (take w u.words.now) (take f u.flags.now) (take a u.addresses.now) (take z u.sizes.now) (take l u.links.now) (take k u.marks.now) (take d u.deeps.now)
+
+  abbrev came : Box
+  came = lent ns1 sw1 hd1 ws1 fs1 ads1 ss1 ls1 ms1 ds1
+
+  part_first : part ≡ first_of m h (box_of u)
   unfolding first_of
-  lent_first m h w f a z l k d ew ef ea ez el ek ed =
-      rw (part_take m w ws ew, part_take m f fs ef, part_take h a ads ea, part_take h z ss ez, part_take h l ls el, part_take h k ms ek, part_take h d ds ed)
+  part_first =
+      rw (part_take m w u.words.now n.0, part_take m f u.flags.now n.1, part_take h a u.addresses.now n.2, part_take h z u.sizes.now n.3, part_take h l u.links.now n.4, part_take h k u.marks.now n.5, part_take h d u.deeps.now n.6)
 
-  -- a part that came back before the rest
-  pub lent_back : (w f a z l k d : ℕ) → length ws1 ≡ w → length fs1 ≡ f → length ads1 ≡ a → length ss1 ≡ z → length ls1 ≡ l → length ms1 ≡ k → length ds1 ≡ d → lent ns1 sw1 hd1 (ws1 ++ drop w ws) (fs1 ++ drop f fs) (ads1 ++ drop a ads) (ss1 ++ drop z ss) (ls1 ++ drop l ls) (ms1 ++ drop k ms) (ds1 ++ drop d ds) ≡ put_back (lent ns1 sw1 hd1 ws1 fs1 ads1 ss1 ls1 ms1 ds1) (lent ns sw hd ws fs ads ss ls ms ds)
+  pub parted : SameShape came part → Parted u m h part came (lent ns1 sw1 hd1 (ws1 ++ drop w u.words.now) (fs1 ++ drop f u.flags.now) (ads1 ++ drop a u.addresses.now) (ss1 ++ drop z u.sizes.now) (ls1 ++ drop l u.links.now) (ms1 ++ drop k u.marks.now) (ds1 ++ drop d u.deeps.now))
   unfolding put_back
-  lent_back w f a z l k d ew ef ea ez el ek ed = rw (ew, ef, ea, ez, el, ek, ed)
+  parted s = record {
+    part_is = part_first;
+    shape = rw part_first at s;
+    joined_is = rw (s.words ∙ sym (part_count m w u.words.now n.0), s.flags ∙ sym (part_count m f u.flags.now n.1), s.addresses ∙ sym (part_count h a u.addresses.now n.2), s.sizes ∙ sym (part_count h z u.sizes.now n.3), s.links ∙ sym (part_count h l u.links.now n.4), s.marks ∙ sym (part_count h k u.marks.now n.5), s.deeps ∙ sym (part_count h d u.deeps.now n.6));
+  }
 
-  -- the columns in parts of these lengths, each as long when it comes back
-  module _ (m h w f a z l k d : ℕ) (ew : w ≡ min m (length ws)) (ef : f ≡ min m (length fs)) (ea : a ≡ min h (length ads)) (ez : z ≡ min h (length ss)) (el : l ≡ min h (length ls)) (ek : k ≡ min h (length ms)) (ed : d ≡ min h (length ds)) (kw : length ws1 ≡ length (take w ws)) (kf : length fs1 ≡ length (take f fs)) (ka : length ads1 ≡ length (take a ads)) (kz : length ss1 ≡ length (take z ss)) (kl : length ls1 ≡ length (take l ls)) (kk : length ms1 ≡ length (take k ms)) (kd : length ds1 ≡ length (take d ds)) where
-    pub parts_shape : SameShape (lent ns1 sw1 hd1 ws1 fs1 ads1 ss1 ls1 ms1 ds1) (first_of m h (lent ns sw hd ws fs ads ss ls ms ds))
-    unfolding first_of
-    parts_shape = record { words = kw ∙ ap length (part_take m w ws ew); flags = kf ∙ ap length (part_take m f fs ef); addresses = ka ∙ ap length (part_take h a ads ea); sizes = kz ∙ ap length (part_take h z ss ez); links = kl ∙ ap length (part_take h l ls el); marks = kk ∙ ap length (part_take h k ms ek); deeps = kd ∙ ap length (part_take h d ds ed) }
-
-    pub parts_back : lent ns1 sw1 hd1 (ws1 ++ drop w ws) (fs1 ++ drop f fs) (ads1 ++ drop a ads) (ss1 ++ drop z ss) (ls1 ++ drop l ls) (ms1 ++ drop k ms) (ds1 ++ drop d ds) ≡ put_back (lent ns1 sw1 hd1 ws1 fs1 ads1 ss1 ls1 ms1 ds1) (lent ns sw hd ws fs ads ss ls ms ds)
-    parts_back = lent_back w f a z l k d (kw ∙ sym (part_count m w ws ew)) (kf ∙ sym (part_count m f fs ef)) (ka ∙ sym (part_count h a ads ea)) (kz ∙ sym (part_count h z ss ez)) (kl ∙ sym (part_count h l ls el)) (kk ∙ sym (part_count h k ms ek)) (kd ∙ sym (part_count h d ds ed))
-
-    pub opens_parts : (r : ℕ) → reply (lent ns1 sw1 hd1 ws1 fs1 ads1 ss1 ls1 ms1 ds1) r ≡ opening m h (lent ns sw hd (take w ws) (take f fs) (take a ads) (take z ss) (take l ls) (take k ms) (take d ds)) → Opens m h (lent ns sw hd ws fs ads ss ls ms ds) (lent ns1 sw1 hd1 (ws1 ++ drop w ws) (fs1 ++ drop f fs) (ads1 ++ drop a ads) (ss1 ++ drop z ss) (ls1 ++ drop l ls) (ms1 ++ drop k ms) (ds1 ++ drop d ds)) r
-    opens_parts r e = subst (λ (b : Box). Opens m h (lent ns sw hd ws fs ads ss ls ms ds) b r) (sym parts_back) (opened_part m h (lent ns sw hd ws fs ads ss ls ms ds) (lent ns1 sw1 hd1 ws1 fs1 ads1 ss1 ls1 ms1 ds1) r parts_shape (e ∙ ap (opening m h) (lent_first m h w f a z l k d ew ef ea ez el ek ed)))
+pub opens_parts : (u : MemoryUnit) (m h : ℕ) {part came joined : Box} (r : ℕ) → Parted u m h part came joined → reply came r ≡ opening m h part → Opens m h (box_of u) joined r
+opens_parts u m h {part} {came} {joined} r p e = subst (λ (b : Box). Opens m h (box_of u) b r) (sym p.joined_is) (opened_part m h (box_of u) came r p.shape (e ∙ ap (opening m h) p.part_is))

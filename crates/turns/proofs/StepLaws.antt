@@ -1,6 +1,6 @@
 -- So many single steps in a row come to what as many turns come to: by induction on their number. Assumes nothing.
 use Prim.Native.Nat.{ℕ, zero, suc, ◌+◌, ◌*◌, ◌-◌, ◌≤◌, ◌<◌}
-use mathlib.Core.Bool.{Bool, true, false}
+use mathlib.Core.Bool.{Bool}
 use mathlib.Core.List.{List, [], ◌∷◌, ◌++◌}
 use mathlib.Core.Path.{◌≡◌, ◌∙◌, ap}
 use native.Mathlib.Omega.{arith}
@@ -19,7 +19,7 @@ use Rattle.pieces.proofs.Lines.{line_short}
 use Rattle.pieces.proofs.Turns.{piece_goes}
 use Rattle.trace.specs.Stepped.{Stepped}
 use Rattle.trace.proofs.StepLines.{step_small, steps_short, steps_long, steps_sound}
-use Rattle.turns.specs.Outcome.{rest_of, Turned}
+use Rattle.turns.specs.Outcome.{Turned}
 use Rattle.turns.proofs.Turning.{outcome_then}
 
 step_next : (last : Bool) (p : Place) (bs : List ℕ) → p.stage < 3 → 0 < p.left → next last p bs ≡ go Step (at p.stage p.count (p.left - 1) p.opened) bs
@@ -40,8 +40,7 @@ steps_piece (suc n) last room p bs b s l r =
     let f : p.left - 1 - n ≡ p.left - suc n = omega arith in
     first ∙ ap (lines_before (a ∷ [])) rest ∙ rw (e, f)
 
-pub turn_steps : (many : ℕ) (last : Bool) (bs o o1 : List ℕ) (b b1 : Box) (p : Place) (k n n1 : ℕ) → k ≤ length bs → n + 3 * many ≤ length o → p.stage < 3 → 0 < many → many ≤ p.left → Stepped many o o1 b b1 n n1 → Turned last bs o o1 b b1 p (at p.stage p.count (p.left - many) p.opened) k k n n1 true false
-unfolding rest_of
+pub turn_steps : (many : ℕ) (last : Bool) (bs o o1 : List ℕ) (b b1 : Box) (p : Place) (k n n1 : ℕ) → k ≤ length bs → n + 3 * many ≤ length o → p.stage < 3 → 0 < many → many ≤ p.left → Stepped many o o1 b b1 n n1 → Turned last bs o o1 b b1 p (at p.stage p.count (p.left - many) p.opened) k k n n1
 turn_steps many last bs o o1 b b1 p k n n1 h r s m l w =
     let xs : List ℕ = (play_steps many b).lines in
     let q : Place = at p.stage p.count (p.left - many) p.opened in
@@ -50,4 +49,4 @@ turn_steps many last bs o o1 b b1 p k n n1 h r s m l w =
     let long : many ≤ length (text xs) = steps_long many b in
     let room : length o1 - n1 ≡ length o - n - length (text xs) = omega (arith, w.end_is) in
     let whole : play_piece last (length o - n) p (drop k bs) b ≡ lines_before xs (play_piece last (length o1 - n1) q (drop k bs) b1) = rw (room, w.box_is) (steps_piece many last (length o - n) p (drop k bs) b s l (omega arith)) in
-    record { comes_to = outcome_then o o1 n n1 xs (play_piece last (length o1 - n1) q (drop k bs) b1) (play_piece last (length o - n) p (drop k bs) b) w.out_is w.end_is whole; bytes_in = h; room_in = omega (arith, w.end_is); never_more = omega (arith, w.end_is); falls = λ e. omega (arith, w.end_is); sound_same = ap sound w.box_is ∙ steps_sound many b }
+    record { comes_to = outcome_then o o1 n n1 xs (play_piece last (length o1 - n1) q (drop k bs) b1) (play_piece last (length o - n) p (drop k bs) b) w.out_is w.end_is whole; bytes_in = h; room_in = omega (arith, w.end_is); falls = omega (arith, w.end_is); sound_same = ap sound w.box_is ∙ steps_sound many b }

@@ -1,13 +1,13 @@
--- One turn of a piece, as the code takes it: what a move leaves of the bytes, that answers are below 100, and that a turn comes to what all
--- turns come to. Assumes nothing.
+-- One turn of a piece, as the code takes it: what a move leaves of the bytes, that answers are below 100, and that a turn and those after it
+-- come to what all turns come to. Assumes nothing.
 use Prim.Native.Nat.{ℕ, ◌+◌, ◌-◌, ◌≤◌, ◌<◌}
-use mathlib.Core.Bool.{Bool, true, false, cond}
+use mathlib.Core.Bool.{Bool, true, false}
 use mathlib.Core.List.{List, [], ◌∷◌, ◌++◌, append-nil, append_assoc}
 use mathlib.Core.Logic.{⊎_elim}
 use mathlib.Core.Option.{Option, none, some}
 use mathlib.Core.Path.{◌≡◌, refl, sym, ◌∙◌, ap, subst}
 use native.Mathlib.Omega.{arith}
-use lib.Dec.{ltb, eqb}
+use lib.Dec.{leb, ltb, eqb}
 use lib.ListN.{length, get_or, drop, length-append, length-drop}
 use lib.Seq.{sets, length-sets, drop-drop}
 use Rattle.rules.specs.declared.kinds.Request.{Request}
@@ -26,14 +26,14 @@ use Rattle.record.proofs.Refusals.{entry_fault_named}
 use Rattle.pieces.specs.declared.place.Place.{Place}
 use Rattle.pieces.specs.declared.place.Deed.{Deed}
 use Rattle.pieces.specs.declared.place.Deed.TheVariants.{Say, Step, Ask, Silent}
-use Rattle.pieces.specs.declared.moves.Move as code
-use Rattle.pieces.specs.declared.moves.Move.TheVariants.{Go, Wait}
+use Rattle.std.specs.Prelude as code
+use Rattle.pieces.specs.declared.moves.Move.{Move as Moved}
 use Rattle.pieces.specs.Text.{line, text}
-use Rattle.pieces.specs.Pieces.{playing, ended, Move, go, wait, may_come, refuse, finish, asked, play_now, take_record, next_record, go_on, look_behind, next, carry_out, printed, at_end as end_stage, Piece, lines_before, room_behind, play_piece}
-use Rattle.pieces.specs.Moves.{as_move}
+use Rattle.pieces.specs.Pieces.{playing, ended, Move, go, wait, may_come, refuse, finish, asked, play_now, take_record, next_record, go_on, look_behind, next, carry_out, printed, at_end as end_stage, Piece, piece, lines_before, room_behind, play_piece}
+use Rattle.pieces.specs.Moves.{moved, as_move}
 use Rattle.trace.proofs.StepLines.{step_small}
-use Rattle.turns.specs.Outcome.{Outcome, leaves, outcome, rest_of, Turned}
-use borrow.Author.Tests.{le-ltb, eqb-true, eqb-false}
+use Rattle.turns.specs.Outcome.{Outcome, leaves, outcome, Turned, Rests}
+use borrow.Author.Tests.{le-ltb, le-leb, lt-leb, eqb-true, eqb-false}
 use Rattle.pieces.proofs.Lines.{line_short, sets_more}
 use Rattle.pieces.proofs.Choices.{something_behind, none_behind}
 use Rattle.pieces.proofs.Turns.{either, goes_less, piece_full, piece_waits, piece_goes}
@@ -64,21 +64,16 @@ text_one : (a : ℕ) → text (a ∷ []) ≡ line a
 unfolding text
 text_one a = append-nil (line a)
 
-module _ (o o1 : List ℕ) (k r a : ℕ) (put : (o1 ≡ sets o k (line a)) × (r ≡ k + length (line a))) where
-  printed_line : (d : Deed) → printed d a ≡ a ∷ [] → (o1 ≡ sets o k (text (printed d a))) × (r ≡ k + length (text (printed d a)))
-  printed_line d e = rw (e, text_one a) put
+-- every deed but a silent one prints its answer
+printed_one : (d : Deed) (a : ℕ) → (d ≡ Silent → ⊥) → printed d a ≡ a ∷ []
+unfolding printed
+printed_one (Say n) a h = refl
+printed_one Step a h = refl
+printed_one (Ask q) a h = refl
+printed_one Silent a h = absurd (h refl)
 
-  pub printed_say : (d : Deed) (n : ℕ) → d ≡ Say n → (o1 ≡ sets o k (text (printed d a))) × (r ≡ k + length (text (printed d a)))
-  unfolding printed
-  printed_say d n e = printed_line d (rw e)
-
-  pub printed_step : (d : Deed) → d ≡ Step → (o1 ≡ sets o k (text (printed d a))) × (r ≡ k + length (text (printed d a)))
-  unfolding printed
-  printed_step d e = printed_line d (rw e)
-
-  pub printed_ask : (d : Deed) (q : Request) → d ≡ Ask q → (o1 ≡ sets o k (text (printed d a))) × (r ≡ k + length (text (printed d a)))
-  unfolding printed
-  printed_ask d q e = printed_line d (rw e)
+pub printed_line : (o o1 : List ℕ) (k r a : ℕ) → (o1 ≡ sets o k (line a)) × (r ≡ k + length (line a)) → (d : Deed) → (d ≡ Silent → ⊥) → (o1 ≡ sets o k (text (printed d a))) × (r ≡ k + length (text (printed d a)))
+printed_line o o1 k r a put d h = rw (printed_one d a h, text_one a) put
 
 pub printed_silent : (o : List ℕ) (k a : ℕ) (d : Deed) → d ≡ Silent → (o ≡ sets o k (text (printed d a))) × (k ≡ k + length (text (printed d a)))
 unfolding printed text
@@ -180,30 +175,27 @@ end_of_end bs k rest h e =
     let s : k + (length (drop k bs) - length rest) ≡ length bs - length rest = omega (arith, length-drop k bs, e.no_longer) in
     e.is_drop ∙ drop-drop (length (drop k bs) - length rest) k bs ∙ ap (λ (n : ℕ). drop n bs) s
 
-pub move_goes : (last : Bool) (p : Place) (bs : List ℕ) (k : ℕ) → k ≤ length bs → (x : Move) → next last p (drop k bs) ≡ x → (m : code.Move) → m ≡ as_move (length bs) x → (d : Deed) (q : Place) (k1 : ℕ) → m ≡ Go d q k1 → MoveAt last p bs k d q k1
-move_goes last p bs k h wait i m e d q k1 u = let z : Wait ≡ Go d q k1 = sym e ∙ u in absurd (let w : ◌≡◌ {A = ℕ} 0 1 = cc in omega arith)
-move_goes last p bs k h (go d0 q0 rest) i m e d q k1 u =
-    let z : Go d0 q0 (place_of (length bs) rest) ≡ Go d q k1 = sym e ∙ u in
-    let a : d0 ≡ d = cc in
-    let b : q0 ≡ q = cc in
-    let c : place_of (length bs) rest ≡ k1 = cc in
-    let f : Fair (drop k bs) (go d0 q0 rest) = subst (Fair (drop k bs)) i (next_fair last p (drop k bs)) in
-    let r : rest ≡ drop k1 bs = end_of_end bs k rest h f.0 ∙ ap (λ (n : ℕ). drop n bs) c in
-    record { is = i ∙ rw (a, b, r); inside = omega arith; small = subst Small a f.1 }
+pub move_goes : (last : Bool) (p : Place) (bs : List ℕ) (k : ℕ) → k ≤ length bs → (x : Move) → next last p (drop k bs) ≡ x → (o : code.Option Moved) → o ≡ as_move (length bs) x → (m : Moved) → o ≡ code.Some m → MoveAt last p bs k m.deed m.place m.next
+move_goes last p bs k h wait i o e m u = let z : code.None ≡ code.Some m = sym e ∙ u in absurd (cc)
+move_goes last p bs k h (go d q rest) i o e m u =
+    let z : code.Some (moved d q (place_of (length bs) rest)) ≡ code.Some m = sym e ∙ u in
+    let y : moved d q (place_of (length bs) rest) ≡ m = cc in
+    let f : Fair (drop k bs) (go d q rest) = subst (Fair (drop k bs)) i (next_fair last p (drop k bs)) in
+    let r : rest ≡ drop (place_of (length bs) rest) bs = end_of_end bs k rest h f.0 in
+    rw (← y) record { is = i ∙ ap (go d q) r; inside = omega arith; small = f.1 }
 
-pub move_waits : (last : Bool) (p : Place) (n : ℕ) (bs : List ℕ) (x : Move) → next last p bs ≡ x → (m : code.Move) → m ≡ as_move n x → m ≡ Wait → next last p bs ≡ wait
-move_waits last p n bs wait i m e u = i
-move_waits last p n bs (go d q rest) i m e u = let z : Go d q (place_of n rest) ≡ Wait = sym e ∙ u in absurd (let w : ◌≡◌ {A = ℕ} 0 1 = cc in omega arith)
+pub move_waits : (last : Bool) (p : Place) (n : ℕ) (bs : List ℕ) (x : Move) → next last p bs ≡ x → (o : code.Option Moved) → o ≡ as_move n x → o ≡ code.None → next last p bs ≡ wait
+move_waits last p n bs wait i o e u = i
+move_waits last p n bs (go d q rest) i o e u = let z : code.Some (moved d q (place_of n rest)) ≡ code.None = sym e ∙ u in absurd (cc)
 
 -- ---- turns
 
-pub turn_full : (last : Bool) (bs o : List ℕ) (b : Box) (p : Place) (k n : ℕ) → k ≤ length bs → n ≤ length o → length o - n < 3 → Turned last bs o o b b p p k k n n false false
-unfolding rest_of
-turn_full last bs o b p k n h i j = record { comes_to = rw (piece_full last (length o - n) p (drop k bs) b j); bytes_in = h; room_in = i; never_more = omega arith; falls = λ e. absurd (let w : ◌≡◌ {A = ℕ} 0 1 = cc in omega arith); sound_same = refl }
+-- no turn is left: the output is full, or bytes are missing
+pub rests_full : (last : Bool) (bs o : List ℕ) (b : Box) (p : Place) (k n : ℕ) → length o - n < 3 → Rests last bs o b p k n
+rests_full last bs o b p k n j = rw (lt-leb 3 (length o - n) j) (piece_full last (length o - n) p (drop k bs) b j)
 
-pub turn_waits : (last : Bool) (bs o : List ℕ) (b : Box) (p : Place) (k n : ℕ) → k ≤ length bs → n ≤ length o → 3 ≤ length o - n → next last p (drop k bs) ≡ wait → Turned last bs o o b b p p k k n n false true
-unfolding rest_of
-turn_waits last bs o b p k n h i j e = record { comes_to = rw (piece_waits last (length o - n) p (drop k bs) b j e); bytes_in = h; room_in = i; never_more = omega arith; falls = λ e. absurd (let w : ◌≡◌ {A = ℕ} 0 1 = cc in omega arith); sound_same = refl }
+pub rests_waiting : (last : Bool) (bs o : List ℕ) (b : Box) (p : Place) (k n : ℕ) → 3 ≤ length o - n → next last p (drop k bs) ≡ wait → Rests last bs o b p k n
+rests_waiting last bs o b p k n j e = rw (le-leb 3 (length o - n) j) (piece_waits last (length o - n) p (drop k bs) b j e)
 
 pub text_append : (xs ys : List ℕ) → text (xs ++ ys) ≡ text xs ++ text ys
 unfolding text
@@ -232,9 +224,8 @@ printed_short Step a h = rw append-nil (line_short a h)
 printed_short (Ask q) a h = rw append-nil (line_short a h)
 printed_short Silent a h = omega arith
 
-pub turn_goes : (last : Bool) (bs o o1 : List ℕ) (b b1 : Box) (p q : Place) (k k1 n n1 : ℕ) (d : Deed) (a : ℕ) → k ≤ length bs → n ≤ length o → 3 ≤ length o - n → MoveAt last p bs k d q k1 → reply b1 a ≡ carry_out d b → (o1 ≡ sets o n (text (printed d a))) × (n1 ≡ n + length (text (printed d a))) → Turned last bs o o1 b b1 p q k k1 n n1 true false
-unfolding rest_of
-turn_goes last bs o o1 b b1 p q k k1 n n1 d a h i j m c w =
+pub turn_goes : (last : Bool) (bs o o1 : List ℕ) (b b1 : Box) (p q : Place) (k k1 n n1 : ℕ) (d : Deed) (a : ℕ) → k ≤ length bs → 3 ≤ length o - n → MoveAt last p bs k d q k1 → reply b1 a ≡ carry_out d b → (o1 ≡ sets o n (text (printed d a))) × (n1 ≡ n + length (text (printed d a))) → Turned last bs o o1 b b1 p q k k1 n n1
+turn_goes last bs o o1 b b1 p q k k1 n n1 d a h j m c w =
     let ans : a ≡ (carry_out d b).answer = ap (λ (r : Reply). r.answer) c in
     let left : b1 ≡ (carry_out d b).box = ap (λ (r : Reply). r.box) c in
     let small : a < 100 = carried_small d b b1 a c m.small in
@@ -243,23 +234,29 @@ turn_goes last bs o o1 b b1 p q k k1 n n1 d a h i j m c w =
     let room : length o1 - n1 ≡ room_behind (printed d a) (length o - n) = omega (arith, room_behind_text (printed d a) (length o - n), w.1) in
     let less : length (drop k1 bs) + room_behind (printed d a) (length o - n) < length (drop k bs) + (length o - n) = goes_less last p (drop k bs) d q (drop k1 bs) m.is a (length o - n) (omega arith) in
     let whole : play_piece last (length o - n) p (drop k bs) b ≡ lines_before (printed d a) (play_piece last (length o1 - n1) q (drop k1 bs) b1) = rw (room, ans, left) (piece_goes last (length o - n) p (drop k bs) b j m.is) in
-    record { comes_to = outcome_then o o1 n n1 (printed d a) (play_piece last (length o1 - n1) q (drop k1 bs) b1) (play_piece last (length o - n) p (drop k bs) b) w.0 w.1 whole; bytes_in = m.inside; room_in = omega (arith, w.1); never_more = omega (arith, length-drop k1 bs, length-drop k bs, m.inside); falls = λ e. omega (arith, length-drop k1 bs, length-drop k bs, m.inside); sound_same = ap sound left ∙ carried_sound d b }
+    record {
+      comes_to = outcome_then o o1 n n1 (printed d a) (play_piece last (length o1 - n1) q (drop k1 bs) b1) (play_piece last (length o - n) p (drop k bs) b) w.0 w.1 whole;
+      bytes_in = m.inside;
+      room_in = omega (arith, w.1);
+      falls = omega (arith, length-drop k1 bs, length-drop k bs, m.inside);
+      sound_same = ap sound left ∙ carried_sound d b;
+    }
 
 -- ---- after the end, and after a refusal
 
 module _ (last : Bool) (bs o : List ℕ) (b : Box) (p : Place) (k n : ℕ) (h : k ≤ length bs) (r : n + 3 ≤ length o) where
-  pub turn_behind : (o1 : List ℕ) (n1 : ℕ) → p.stage ≡ 3 → k < length bs → (o1 ≡ sets o n (line bytes_after)) × (n1 ≡ n + length (line bytes_after)) → Turned last bs o o1 b b p (ended p) k k n n1 true false
-  unfolding next look_behind printed
+  pub turn_behind : (o1 : List ℕ) (n1 : ℕ) → p.stage ≡ 3 → k < length bs → (o1 ≡ sets o n (line bytes_after)) × (n1 ≡ n + length (line bytes_after)) → Turned last bs o o1 b b p (ended p) k k n n1
+  unfolding next look_behind
   turn_behind o1 n1 s f w =
-      turn_goes last bs o o1 b b p (ended p) k k n n1 (Say bytes_after) bytes_after h (omega arith) (omega arith)
-      (record { is = is; inside = h; small = omega arith }) (carried_say (Say bytes_after) bytes_after b refl) (printed_say o o1 n n1 bytes_after w (Say bytes_after) bytes_after refl)
+      turn_goes last bs o o1 b b p (ended p) k k n n1 (Say bytes_after) bytes_after h (omega arith)
+      (record { is = is; inside = h; small = omega arith }) (carried_say (Say bytes_after) bytes_after b refl) (printed_line o o1 n n1 bytes_after w (Say bytes_after) (λ e. let z : ◌≡◌ {A = ℕ} 0 1 = cc in omega arith))
     where
       is : next last p (drop k bs) ≡ go (Say bytes_after) (ended p) (drop k bs)
       is = simp (s, something_behind bs k f)
 
-  pub turn_over : 3 ≤ p.stage → (p.stage ≡ 3 → length bs ≤ k) → Turned last bs o o b b p p k k n n false true
+  pub rests_over : 3 ≤ p.stage → (p.stage ≡ 3 → length bs ≤ k) → Rests last bs o b p k n
   unfolding next look_behind
-  turn_over s f = turn_waits last bs o b p k n h (omega arith) (omega arith) (by (eqb p.stage 3) refl)
+  rests_over s f = rests_waiting last bs o b p k n (omega arith) (by (eqb p.stage 3) refl)
     where
       by : (t : Bool) → eqb p.stage 3 ≡ t → next last p (drop k bs) ≡ wait
       by true e = simp (le-ltb p.stage 3 s, e, none_behind bs k (f (eqb-true p.stage 3 e)))
@@ -267,26 +264,14 @@ module _ (last : Bool) (bs o : List ℕ) (b : Box) (p : Place) (k n : ℕ) (h : 
 
 -- ---- all turns
 
--- before the first turn everything is to be played, and after the last nothing
-pub begins : (o : List ℕ) (w last : Bool) (p : Place) (bs : List ℕ) (b : Box) → outcome o 0 (rest_of true w last (length o - 0) p bs b) ≡ outcome o 0 (play_piece last (length o) p bs b)
-unfolding rest_of
-begins o w last p bs b = let e : length o - 0 ≡ length o = omega arith in rw e
+-- before the first turn everything is to be played
+pub begins : (o : List ℕ) (last : Bool) (p : Place) (bs : List ℕ) (b : Box) → outcome o 0 (play_piece last (length o - 0) p bs b) ≡ outcome o 0 (play_piece last (length o) p bs b)
+begins o last p bs b = let e : length o - 0 ≡ length o = omega arith in rw e
 
-pub ends : (o : List ℕ) (n : ℕ) (going w last : Bool) (room : ℕ) (p : Place) (bs : List ℕ) (b : Box) → going ≡ false → leaves o n b p bs w ≡ outcome o n (rest_of going w last room p bs b)
-unfolding rest_of text
-ends o n going w last room p bs b e = let z : n + 0 ≡ n = omega arith in rw (e, z)
+-- and after the last, which changed nothing, nothing is
+ends : (o : List ℕ) (n : ℕ) (b : Box) (p : Place) (bs : List ℕ) (w : Bool) → leaves o n b p bs w ≡ outcome o n (piece [] b p bs w)
+unfolding text
+ends o n b p bs w = let z : n + 0 ≡ n = omega arith in rw z
 
--- what may go on counts for one
-pub counts : Bool → ℕ
-counts t = cond t 1 0
-
--- a turn that is taken leaves less to go
-pub turn_less : (going : Bool) (x y : ℕ) (before : Bool) → before ≡ true → x ≤ y → (going ≡ true → x < y) → x + counts going < y + counts before
-unfolding counts
-turn_less true x y before e h f = rw e (omega (arith, f refl))
-turn_less false x y before e h f = rw e (omega arith)
-
--- the turn before comes to the same
-pub turn_same : (o o1 : List ℕ) (n n1 : ℕ) (r : Piece) (x : Outcome) (going w last : Bool) (room : ℕ) (p : Place) (bs : List ℕ) (b : Box) → going ≡ true → outcome o1 n1 r ≡ outcome o n (play_piece last room p bs b) → outcome o n (rest_of going w last room p bs b) ≡ x → outcome o1 n1 r ≡ x
-unfolding rest_of
-turn_same o o1 n n1 r x going w last room p bs b e f g = f ∙ (rw e at g)
+pub rested : (last : Bool) (bs o o1 : List ℕ) (b b1 : Box) (p : Place) (k n : ℕ) (x : Outcome) → Rests last bs o b p k n → o1 ≡ o → b1 ≡ b → outcome o n (play_piece last (length o - n) p (drop k bs) b) ≡ x → leaves o1 n b1 p (drop k bs) (leb 3 (length o1 - n)) ≡ x
+rested last bs o o1 b b1 p k n x r e f g = rw (e, f) (ends o n b p (drop k bs) (leb 3 (length o - n)) ∙ ap (outcome o n) (sym r) ∙ g)

@@ -4,5 +4,5 @@
 mod opening;
 mod playing;
 
-pub use opening::{open_first, part};
+pub use opening::open_first;
 pub use playing::{Went, play_on};

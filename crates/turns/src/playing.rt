@@ -1,18 +1,21 @@
 // A piece of a record, played on the lent parts.
-ghost use Rattle.std.specs.Prelude.{◌≡◌, ℕ, ◌+◌, ◌*◌, ◌<◌, ◌≤◌, Bool, List, length, drop};
+ghost use Rattle.std.specs.Prelude.{◌≡◌, ℕ, ◌+◌, ◌*◌, ◌<◌, ◌≤◌, Bool, List, length, drop, IfSome, IsNone};
 ghost use Rattle.std.proofs.lemmas.List.Edits.{sets};
 ghost use Rattle.rules.specs.Parts.{Box};
 ghost use Rattle.rules.specs.Box.{reply, sound};
-ghost use Rattle.lent.specs.Lent.{lent};
+ghost use Rattle.lent.specs.Lent.{box_of, SameReferences};
 ghost use Rattle.pieces.specs.declared.place.Deed.TheVariants.{Step};
 ghost use Rattle.pieces.specs.Text.{text};
 ghost use Rattle.pieces.specs.Pieces.{carry_out, printed, play_piece};
-ghost use Rattle.turns.specs.Outcome.{leaves, outcome, Turned};
+ghost use Rattle.turns.specs.Outcome.{leaves, outcome, Turned, Rests};
 
-use lent::sound;
-use pieces::{Deed, Move, Place, next_move, put_line};
+use lent::MemoryUnit;
+use pieces::{Deed, Place, next_move, put_line};
 use requests::requested;
 use trace::step_lines;
+
+// How many characters a line has at most: an answer is below 100.
+const LINE_ROOM: usize = 3;
 
 // What a piece left: where the playing stands, how many bytes of the input were used and of the output written, and whether nothing can
 // be done with the bytes that are left.
@@ -24,41 +27,24 @@ pub struct Went {
     pub waits: bool,
 }
 
-// The same after one turn, and whether there may be another.
+// How far a piece was played by some of its turns.
 #[derive(Clone, Copy)]
-struct Turn {
+struct Progress {
     place: Place,
     used: usize,
     written: usize,
-    going: bool,
-    waits: bool,
 }
 
 // Does a deed other than a step on a box of which it is known whether it is sound, and gives the answer.
-fn carry_out(
-    deed: Deed,
-    right: bool,
-    numbers: &mut [u32; 22],
-    switches: &mut [bool; 11],
-    hold: &mut [u16; 3],
-    words: &mut [u32],
-    flags: &mut [bool],
-    addresses: &mut [u32],
-    sizes: &mut [u32],
-    links: &mut [u32],
-    marks: &mut [bool],
-    deeps: &mut [bool],
-) -> u32
-    requires { (sound (lent numbers.old switches.old hold.old words.old flags.old addresses.old sizes.old links.old marks.old deeps.old) ≡ right) × (deed ≡ Step → ⊥) }
-    ensures { reply (lent numbers.new switches.new hold.new words.new flags.new addresses.new sizes.new links.new marks.new deeps.new) result ≡ carry_out deed (lent numbers.old switches.old hold.old words.old flags.old addresses.old sizes.old links.old marks.old deeps.old) }
+fn carry_out(unit: &mut MemoryUnit<'_>, right: bool, deed: Deed) -> u32
+    requires { (sound (box_of unit.old) ≡ right) × (deed ≡ Step → ⊥) }
+    ensures same_references { SameReferences unit.old unit.new }
+    ensures answered { reply (box_of unit.new) result ≡ carry_out deed (box_of unit.old) }
 {
     match deed {
         Deed::Say(a) => a,
-        Deed::Ask(q) => requested(
-            right, q, numbers, switches, hold, words, flags, addresses, sizes, links, marks, deeps,
-        ),
-        Deed::Step => 0,
-        Deed::Silent => 0,
+        Deed::Ask(q) => requested(unit, right, q),
+        Deed::Step | Deed::Silent => 0,
     }
 }
 
@@ -68,269 +54,158 @@ fn print(deed: Deed, a: u32, out: &mut [u8], at: usize) -> usize
     ensures { (out.new ≡ sets out.old at (text (printed deed a))) × (result ≡ at + length (text (printed deed a))) }
 {
     match deed {
-        Deed::Say(_) => put_line(a, out, at),
-        Deed::Step => put_line(a, out, at),
-        Deed::Ask(_) => put_line(a, out, at),
         Deed::Silent => at,
+        _ => put_line(a, out, at),
     }
 }
 
 // The next thing to do is done, where there is one; no steps are left to be done. The output has room for a line.
 fn take_deed(
-    last: bool,
+    unit: &mut MemoryUnit<'_>,
     right: bool,
-    place: Place,
+    last: bool,
+    from: Progress,
     input: &[u8],
-    used: usize,
-    numbers: &mut [u32; 22],
-    switches: &mut [bool; 11],
-    hold: &mut [u16; 3],
-    words: &mut [u32],
-    flags: &mut [bool],
-    addresses: &mut [u32],
-    sizes: &mut [u32],
-    links: &mut [u32],
-    marks: &mut [bool],
-    deeps: &mut [bool],
     out: &mut [u8],
-    written: usize,
-) -> Turn
-    requires { (used ≤ length input.now) × (written + 3 ≤ length out.old) × (place.left ≡ 0) × (sound (lent numbers.old switches.old hold.old words.old flags.old addresses.old sizes.old links.old marks.old deeps.old) ≡ right) }
-    ensures { Turned last input.now out.old out.new (lent numbers.old switches.old hold.old words.old flags.old addresses.old sizes.old links.old marks.old deeps.old) (lent numbers.new switches.new hold.new words.new flags.new addresses.new sizes.new links.new marks.new deeps.new) place result.place used result.used written result.written result.going result.waits }
+) -> Option<Progress>
+    requires { (from.used ≤ length input.now) × (from.written + 3 ≤ length out.old) × (from.place.left ≡ 0) × (sound (box_of unit.old) ≡ right) }
+    ensures same_references { SameReferences unit.old unit.new }
+    ensures turned { IfSome result (λ to. Turned last input.now out.old out.new (box_of unit.old) (box_of unit.new) from.place to.place from.used to.used from.written to.written) }
+    ensures rests { IsNone result → (Rests last input.now out.old (box_of unit.old) from.place from.used from.written) × (out.new ≡ out.old) × (box_of unit.new ≡ box_of unit.old) }
 {
-    let m = next_move(last, place, input, used);
-    let Move::Go {
-        deed,
-        place: stands,
-        next,
-    } = m
-    else {
-        return Turn {
-            place,
-            used,
-            written,
-            going: false,
-            waits: true,
-        };
+    let Some(m) = next_move(last, from.place, input, from.used) else {
+        return None;
     };
-    let a = carry_out(
-        deed, right, numbers, switches, hold, words, flags, addresses, sizes, links, marks, deeps,
-    );
-    let behind = print(deed, a, out, written);
-    Turn {
-        place: stands,
-        used: next,
+    let a = carry_out(unit, right, m.deed);
+    let behind = print(m.deed, a, out, from.written);
+    Some(Progress {
+        place: m.place,
+        used: m.next,
         written: behind,
-        going: true,
-        waits: false,
-    }
+    })
 }
 
 // As many as n, but no more than there is room for a line of each.
 fn at_most(n: u32, room: usize) -> u32
     ensures { (result ≤ n) × (3 * result ≤ room) × (0 < n → 3 ≤ room → 0 < result) }
 {
-    let lines = room / 3;
-    if lines < n as usize {
-        return lines as u32;
-    }
-    n
+    (n as usize).min(room / LINE_ROOM) as u32
 }
 
 // Single steps are done, as many as are left and the output has room for.
-fn take_steps(
-    right: bool,
-    place: Place,
-    used: usize,
-    numbers: &mut [u32; 22],
-    switches: &mut [bool; 11],
-    hold: &[u16; 3],
-    words: &mut [u32],
-    flags: &mut [bool],
-    addresses: &mut [u32],
-    sizes: &mut [u32],
-    links: &mut [u32],
-    marks: &mut [bool],
-    deeps: &mut [bool],
-    out: &mut [u8],
-    written: usize,
-) -> Turn
-    requires { (written + 3 ≤ length out.old) × (place.stage < 3) × (0 < place.left) × (sound (lent numbers.old switches.old hold.now words.old flags.old addresses.old sizes.old links.old marks.old deeps.old) ≡ right) }
-    ensures { (last : Bool) (bs : List ℕ) → used ≤ length bs → Turned last bs out.old out.new (lent numbers.old switches.old hold.now words.old flags.old addresses.old sizes.old links.old marks.old deeps.old) (lent numbers.new switches.new hold.now words.new flags.new addresses.new sizes.new links.new marks.new deeps.new) place result.place used result.used written result.written result.going result.waits }
+fn take_steps(unit: &mut MemoryUnit<'_>, right: bool, from: Progress, out: &mut [u8]) -> Progress
+    requires { (from.written + 3 ≤ length out.old) × (from.place.stage < 3) × (0 < from.place.left) × (sound (box_of unit.old) ≡ right) }
+    ensures same_references { SameReferences unit.old unit.new }
+    ensures turned { (last : Bool) (bs : List ℕ) → from.used ≤ length bs → Turned last bs out.old out.new (box_of unit.old) (box_of unit.new) from.place result.place from.used result.used from.written result.written }
 {
+    let place = from.place;
     let left = place.left;
-    let many = at_most(left, out.len() - written);
-    let behind = step_lines(
-        right, many, numbers, switches, hold, words, flags, addresses, sizes, links, marks, deeps,
-        out, written,
-    );
-    Turn {
+    let many = at_most(left, out.len() - from.written);
+    let behind = step_lines(unit, right, many, out, from.written);
+    Progress {
         place: Place {
-            stage: place.stage,
-            count: place.count,
             left: left - many,
-            opened: place.opened,
+            ..place
         },
-        used,
         written: behind,
-        going: true,
-        waits: false,
+        ..from
     }
 }
 
 // After the end, and after a refusal: bytes behind the end are refused, and there is nothing else to do. The output has room for a line.
-fn take_end(place: Place, input: &[u8], used: usize, out: &mut [u8], written: usize) -> Turn
-    requires { (used ≤ length input.now) × (written + 3 ≤ length out.old) × (3 ≤ place.stage) }
-    ensures { (last : Bool) (b : Box) → Turned last input.now out.old out.new b b place result.place used result.used written result.written result.going result.waits }
+fn take_end(from: Progress, input: &[u8], out: &mut [u8]) -> Option<Progress>
+    requires { (from.used ≤ length input.now) × (from.written + 3 ≤ length out.old) × (3 ≤ from.place.stage) }
+    ensures turned { (last : Bool) (b : Box) → IfSome result (λ to. Turned last input.now out.old out.new b b from.place to.place from.used to.used from.written to.written) }
+    ensures rests { (last : Bool) (b : Box) → IsNone result → (Rests last input.now out.old b from.place from.used from.written) × (out.new ≡ out.old) }
 {
-    if place.stage == 3 {
-        if used < input.len() {
-            let behind = put_line(24, out, written);
-            return Turn {
-                place: Place {
-                    stage: 4,
-                    count: place.count,
-                    left: 0,
-                    opened: place.opened,
-                },
-                used,
-                written: behind,
-                going: true,
-                waits: false,
-            };
-        }
+    let place = from.place;
+    if place.stage == 3 && from.used < input.len() {
+        let behind = put_line(24, out, from.written);
+        return Some(Progress {
+            place: Place {
+                stage: 4,
+                left: 0,
+                ..place
+            },
+            written: behind,
+            ..from
+        });
     }
-    Turn {
-        place,
-        used,
-        written,
-        going: false,
-        waits: true,
-    }
+    None
 }
 
 // The steps that are left are done, or the next record, where there is something to do and the output has room for a line.
 fn take_turn(
-    last: bool,
+    unit: &mut MemoryUnit<'_>,
     right: bool,
-    place: Place,
+    last: bool,
+    from: Progress,
     input: &[u8],
-    used: usize,
-    numbers: &mut [u32; 22],
-    switches: &mut [bool; 11],
-    hold: &mut [u16; 3],
-    words: &mut [u32],
-    flags: &mut [bool],
-    addresses: &mut [u32],
-    sizes: &mut [u32],
-    links: &mut [u32],
-    marks: &mut [bool],
-    deeps: &mut [bool],
     out: &mut [u8],
-    written: usize,
-) -> Turn
-    requires { (used ≤ length input.now) × (written ≤ length out.old) × (sound (lent numbers.old switches.old hold.old words.old flags.old addresses.old sizes.old links.old marks.old deeps.old) ≡ right) }
-    ensures { Turned last input.now out.old out.new (lent numbers.old switches.old hold.old words.old flags.old addresses.old sizes.old links.old marks.old deeps.old) (lent numbers.new switches.new hold.new words.new flags.new addresses.new sizes.new links.new marks.new deeps.new) place result.place used result.used written result.written result.going result.waits }
+) -> Option<Progress>
+    requires { (from.used ≤ length input.now) × (from.written ≤ length out.old) × (sound (box_of unit.old) ≡ right) }
+    ensures same_references { SameReferences unit.old unit.new }
+    ensures turned { IfSome result (λ to. Turned last input.now out.old out.new (box_of unit.old) (box_of unit.new) from.place to.place from.used to.used from.written to.written) }
+    ensures rests { IsNone result → (Rests last input.now out.old (box_of unit.old) from.place from.used from.written) × (out.new ≡ out.old) × (box_of unit.new ≡ box_of unit.old) }
 {
-    if out.len() - written < 3 {
-        return Turn {
-            place,
-            used,
-            written,
-            going: false,
-            waits: false,
-        };
+    if out.len() - from.written < LINE_ROOM {
+        return None;
     }
-    let left = place.left;
-    if left == 0 {
-        return take_deed(
-            last, right, place, input, used, numbers, switches, hold, words, flags, addresses,
-            sizes, links, marks, deeps, out, written,
-        );
+    let place = from.place;
+    if place.left == 0 {
+        return take_deed(unit, right, last, from, input, out);
     }
     if place.stage < 3 {
-        return take_steps(
-            right, place, used, numbers, switches, hold, words, flags, addresses, sizes, links,
-            marks, deeps, out, written,
-        );
+        return Some(take_steps(unit, right, from, out));
     }
-    take_end(place, input, used, out, written)
+    take_end(from, input, out)
 }
 
 // Plays records as long as the bytes at hand have one whole and the output has room for a line. The box is open, or its opening was refused.
 pub fn play_on(
+    unit: &mut MemoryUnit<'_>,
     last: bool,
     place: Place,
     input: &[u8],
-    numbers: &mut [u32; 22],
-    switches: &mut [bool; 11],
-    hold: &mut [u16; 3],
-    words: &mut [u32],
-    flags: &mut [bool],
-    addresses: &mut [u32],
-    sizes: &mut [u32],
-    links: &mut [u32],
-    marks: &mut [bool],
-    deeps: &mut [bool],
     out: &mut [u8],
 ) -> Went
-    ensures { (result.used ≤ length input.now) × (leaves out.new result.written (lent numbers.new switches.new hold.new words.new flags.new addresses.new sizes.new links.new marks.new deeps.new) result.place (drop result.used input.now) result.waits ≡ outcome out.old 0 (play_piece last (length out.old) place input.now (lent numbers.old switches.old hold.old words.old flags.old addresses.old sizes.old links.old marks.old deeps.old))) }
+    ensures same_references { SameReferences unit.old unit.new }
+    ensures played { (result.used ≤ length input.now) × (leaves out.new result.written (box_of unit.new) result.place (drop result.used input.now) result.waits ≡ outcome out.old 0 (play_piece last (length out.old) place input.now (box_of unit.old))) }
 {
-    let right = sound(
-        numbers[0],
-        numbers[1],
-        numbers[4],
-        words.len(),
-        flags.len(),
-        addresses.len(),
-        sizes.len(),
-        links.len(),
-        marks.len(),
-        deeps.len(),
-    );
+    let right = unit.is_sound();
+    // The place's fields apart, and not the place: with a struct carried from turn to turn playing took a fifth longer (docs/PERFORMANCE.md).
     let mut opened = place.opened;
     let mut stage = place.stage;
     let mut count = place.count;
     let mut left = place.left;
     let mut used: usize = 0;
     let mut written: usize = 0;
-    let mut going = true;
-    let mut waits = false;
-    while going {
-        let t = take_turn(
-            last,
-            right,
-            Place {
+    while let Some(to) = take_turn(
+        unit,
+        right,
+        last,
+        Progress {
+            place: Place {
                 stage,
                 count,
                 left,
                 opened,
             },
-            input,
             used,
-            numbers,
-            switches,
-            hold,
-            words,
-            flags,
-            addresses,
-            sizes,
-            links,
-            marks,
-            deeps,
-            out,
             written,
-        );
-        let stands = t.place;
+        },
+        input,
+        out,
+    ) {
+        let stands = to.place;
         stage = stands.stage;
         count = stands.count;
         left = stands.left;
         opened = stands.opened;
-        used = t.used;
-        written = t.written;
-        going = t.going;
-        waits = t.waits;
+        used = to.used;
+        written = to.written;
     }
+    // Where there is room for a line it was bytes that were missing.
     Went {
         place: Place {
             stage,
@@ -340,6 +215,6 @@ pub fn play_on(
         },
         used,
         written,
-        waits,
+        waits: LINE_ROOM <= out.len() - written,
     }
 }

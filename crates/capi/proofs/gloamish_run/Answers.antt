@@ -1,6 +1,9 @@
--- `gloamish_run` meets its contract: by what the run ensures, with its steps and its answer in one number. Assumes nothing.
-use Rattle.capi.proofs.Whole.{ran_in_one}
+-- `gloamish_run` meets its contract: a run leaves the hold's numbers. Assumes nothing.
+use Rattle.std.proofs.Common.{rules}
+use Rattle.capi.specs.Calls.{c_run}
+use Rattle.capi.proofs.Held.{run_held}
 use Rattle.capi.proofs.gloamish_run.Goals as goal
 
-pub returns : goal.returns
-returns c = ran_in_one _ _ _ _ _ _ _ c.run-done.ensures c.wide.ensures.0 c.wide-2.ensures.0
+pub returns-clause-held : goal.returns-clause-held
+unfolding c_run
+returns-clause-held c = run_held c.args.budget c.args.unit.now c.run-done.new.unit _ (search rules)

@@ -1,9 +1,6 @@
--- The bytes at hand stay within the input, and the turns that are left fall.
+-- The bytes at hand stay within the input.
 use Rattle.play.specs.Hand.{Within}
 use Rattle.play.proofs.main.Given as goal
 
-abbrev pub invariant-loop-turns : goal.invariant-loop-turns
-invariant-loop-turns l = Within l.r 65536
-
-abbrev pub decreases-loop-turns : goal.decreases-loop-turns
-decreases-loop-turns l = l.turns
+abbrev pub invariant-loop : goal.invariant-loop
+invariant-loop l = Within l.r 65536

@@ -1,33 +1,15 @@
--- `open` equals the definition `opening`: refused, or each part as its call leaves it. Assumes nothing.
-use mathlib.Core.Path.{◌≡◌, refl, sym, ◌∙◌}
-use lib.ListN.{length}
-use Rattle.rules.specs.Parts.{Box}
-use Rattle.rules.specs.Box.{right_sizes}
-use Rattle.rules.proofs.Sizes.{sizes_lengths, sizes_ranges}
-use Rattle.collector.proofs.Bounds.{at_most}
-use Rattle.lent.specs.Lent.{lent}
-use Rattle.memory.proofs.Fills.{open_refused, open_done, opened_whole}
+-- `open` equals the definition `opening`: each part is as its call leaves it. Assumes nothing.
+use mathlib.Core.Path.{sym, ◌∙◌}
+use Rattle.lent.specs.Lent.{box_of}
+use Rattle.memory.proofs.Opened.{links_short, open_done}
 use Rattle.memory.proofs.opening.open.Goals as goal
 
 pub link_all-requires : goal.link_all-requires
-link_all-requires c =
-    let a = c.args in
-    let b : Box = (lent a.numbers.now a.switches.now a.hold.now a.words.now a.flags.now a.addresses.now a.sizes.now a.links.now a.marks.now a.deeps.now) in
-    let y = c.right_sizes.result in
-    let e : y ≡ right_sizes a.m a.h b = c.right_sizes.ensures b (refl, refl, refl, refl, refl, refl, refl) in
-    let right = sym e ∙ c.if-right_sizes.true in
-    at_most (length a.links.now) a.h 4096 (sizes_lengths a.m a.h b right).links (sizes_ranges a.m a.h b right).entries
+link_all-requires c = let a = c.args in links_short a.m a.h (box_of a.unit.now) (sym c.right_sizes.ensures ∙ c.if-not-right_sizes.false)
 
-pub returns-then-right_sizes : goal.returns-then-right_sizes
-returns-then-right_sizes c =
+pub returns-clause-answered : goal.returns-clause-answered
+returns-clause-answered c =
     let a = c.args in
-    let b : Box = (lent a.numbers.now a.switches.now a.hold.now a.words.now a.flags.now a.addresses.now a.sizes.now a.links.now a.marks.now a.deeps.now) in
-    let y = c.right_sizes.result in
-    let e : y ≡ right_sizes a.m a.h b = c.right_sizes.ensures b (refl, refl, refl, refl, refl, refl, refl) in
-    let right = sym e ∙ c.if-right_sizes.true in
-    let s = c.new_state.ensures in
-    open_done a.m a.h b y e (lent c.new_state.new.numbers c.new_state.new.switches c.new_state.new.hold c.clear.new.a c.unset.new.a c.clear-then-right_sizes.new.a c.clear-then-right_sizes-2.new.a c.link_all.new.links c.unset-then-right_sizes.new.a c.unset-then-right_sizes-2.new.a) c.if-right_sizes.true
-    (opened_whole a.m a.h b (sizes_lengths a.m a.h b right) c.new_state.new.numbers c.new_state.new.switches c.new_state.new.hold c.clear.new.a c.unset.new.a c.clear-then-right_sizes.new.a c.clear-then-right_sizes-2.new.a c.link_all.new.links c.unset-then-right_sizes.new.a c.unset-then-right_sizes-2.new.a s.0 s.1 s.2 c.clear.ensures c.unset.ensures c.clear-then-right_sizes.ensures c.clear-then-right_sizes-2.ensures c.link_all.ensures c.unset-then-right_sizes.ensures c.unset-then-right_sizes-2.ensures)
-
-pub returns : goal.returns
-returns c = let a = c.args in let b : Box = (lent a.numbers.now a.switches.now a.hold.now a.words.now a.flags.now a.addresses.now a.sizes.now a.links.now a.marks.now a.deeps.now) in open_refused a.m a.h b c.right_sizes.result (c.right_sizes.ensures b (refl, refl, refl, refl, refl, refl, refl)) c.if-right_sizes.false
+    let s = c.new_state in
+    open_done a.m a.h (box_of a.unit.now) (sym c.right_sizes.ensures ∙ c.if-not-right_sizes.false) s.new.numbers s.new.switches s.new.hold c.fill.new.self c.fill-2.new.self c.fill-3.new.self c.fill-4.new.self c.link_all.new.links c.fill-5.new.self c.fill-6.new.self s.ensures.0 s.ensures.1 s.ensures.2
+    (c.fill.ensures.after (λ y e. e)) (c.fill-2.ensures.after (λ y e. e)) (c.fill-3.ensures.after (λ y e. e)) (c.fill-4.ensures.after (λ y e. e)) c.link_all.ensures (c.fill-5.ensures.after (λ y e. e)) (c.fill-6.ensures.after (λ y e. e))

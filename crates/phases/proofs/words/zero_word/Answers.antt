@@ -1,25 +1,14 @@
--- `zero_word` meets its contract: its method's promise, which is the rule's at a word, and what is put back. Assumes nothing.
-use Prim.Native.Nat.{◌+◌, ◌≤◌}
-use mathlib.Core.Bool.{true}
-use mathlib.Core.Path.{◌≡◌}
-use lib.Dec.{ltb}
-use Rattle.rules.specs.Collector.{sweep_zero}
+-- `zero_word` meets its contract: it keeps what `put_back` asks for. Assumes nothing.
 use Rattle.rules.proofs.Kept.{zero_rule_keeps}
-use Rattle.collector.specs.Boxed.{boxed}
-use Rattle.collector.proofs.Moving.{zero_done}
-use Rattle.lent.specs.Lent.{state_of}
-use Rattle.phases.proofs.Landing.{landed_words}
-use borrow.Author.Tests.{lt-ltb}
+use Rattle.lent.specs.Lent.{registers_of, box_with}
+use Rattle.phases.specs.Words.{AtWord}
+use Rattle.phases.proofs.Landing.{kept}
+use Rattle.phases.proofs.WordSteps.{zero_at}
 use Rattle.phases.proofs.words.zero_word.Goals as goal
 
-pub returns : goal.returns
-returns c =
-    let a = c.args in
-    let s = c.taken-state.result in
-    let x = c.zero_word-left.result in
-    let t : s ≡ (state_of a.numbers.now a.switches.now a.hold.now) = c.taken-state.ensures in
-    let i : s.index ≤ s.size = rw t c.requires.3 in
-    let u : ltb (s.src + s.index) s.m ≡ true = lt-ltb (s.src + s.index) s.m (rw t c.requires.4) in
-    landed_words sweep_zero zero_rule_keeps a.numbers.now a.switches.now a.hold.now a.words.now c.zero_word-left.new.words a.flags.now c.zero_word-left.new.flags s x 30 c.taken-arg-2-1.given c.taken-arg-4-1.given t
-    (λ q ads ss ls ms ds. zero_done (boxed q a.words.now a.flags.now ads ss ls ms ds s) (boxed q c.zero_word-left.new.words c.zero_word-left.new.flags ads ss ls ms ds x) i u (c.zero_word-left.ensures q ads ss ls ms ds))
-    c.put_room.new.numbers c.put_lists.new.numbers c.put_walk.new.numbers c.put_switches.new.switches c.put_room.ensures c.put_lists.ensures c.put_walk.ensures c.put_switches.ensures
+pub put_back-requires-clause-kept : goal.put_back-requires-clause-kept
+put_back-requires-clause-kept c =
+    let u = c.args.unit.now in
+    let s = c.state-before.result in
+    let w : AtWord s = rw c.state-before.ensures c.requires.at_word in
+    kept (box_with u s) _ _ _ (zero_rule_keeps _) (zero_at _ _ w.0 w.1 (c.zero_word-after.ensures (registers_of u.numbers.now u.switches.now) u.addresses.now u.sizes.now u.links.now u.marks.now u.deeps.now))

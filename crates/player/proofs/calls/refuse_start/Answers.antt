@@ -1,12 +1,19 @@
 -- `refuse_start` meets its contract: whether the string is cut, and whether more may come. Assumes nothing.
-use Rattle.player.proofs.Starting.{refuses_other, refuses_last, refuses_later}
+use Rattle.std.proofs.Common.{◌≡◌, true, false, arith}
+use Rattle.std.proofs.lemmas.Grind.{common_steps}
+use Rattle.record.specs.Found.{number_of}
+use Rattle.pieces.specs.Pieces.{may_come}
+use Rattle.player.proofs.Starting.{refuses_now, refuses_later}
 use Rattle.player.proofs.calls.refuse_start.Goals as goal
 
-pub returns-then-last : goal.returns-then-last
-returns-then-last c = refuses_last c.args.last c.args.a c.args.out.now c.say_refused.new.out c.args.place c.say_refused.result.place c.say_refused.result.used c.say_refused.result.written c.say_refused.result.waits c.say_refused.ensures c.if-a-eq20.true c.if-last.true
-
-pub returns-then-a-eq20 : goal.returns-then-a-eq20
-returns-then-a-eq20 c = refuses_later c.args.last c.args.a c.args.out.now c.args.place c.requires.0 c.if-a-eq20.true c.if-last.false
+pub returns-then-not-last : goal.returns-then-not-last
+unfolding may_come
+returns-then-not-last c =
+    let m : may_come c.args.last (number_of c.args.fault) ≡ true = grind (arith, common_steps) in
+    refuses_later c.args.last _ _ c.args.place c.requires.0 m
 
 pub returns : goal.returns
-returns c = refuses_other c.args.last c.args.a c.args.out.now c.say_refused-2.new.out c.args.place c.say_refused-2.result.place c.say_refused-2.result.used c.say_refused-2.result.written c.say_refused-2.result.waits c.say_refused-2.ensures c.if-a-eq20.false
+unfolding may_come
+returns c =
+    let m : may_come c.args.last c.number.result ≡ false = grind (arith, common_steps) in
+    rw (← c.number.ensures) (refuses_now c.args.last c.number.result _ _ c.args.place _ _ _ _ c.say_refused.ensures m)

@@ -1,12 +1,11 @@
--- `ending` meets its contract: each return is a case of the definition. Assumes nothing.
-use Rattle.record.proofs.Readings.{ending_more, ending_last, ending_wrong}
+-- `ending` meets its contract: bytes behind the end are refused. Assumes nothing.
+use borrow.Author.Tests.{eq-eqb}
+use lib.Seq.{drop-cons}
+use Rattle.record.specs.Reading.{nothing_behind, ending}
 use Rattle.record.proofs.reading.ending.Goals as goal
 
 pub returns-then-next-bytes : goal.returns-then-next-bytes
-returns-then-next-bytes c = let a = c.args in ending_more a.bytes.now a.next a.told a.count c.if-told-count.true c.if-next-bytes.true
-
-pub returns-then-told-count : goal.returns-then-told-count
-returns-then-told-count c = let a = c.args in ending_last a.bytes.now a.next a.told a.count c.if-told-count.true c.if-next-bytes.false
-
-pub returns : goal.returns
-returns c = let a = c.args in ending_wrong a.bytes.now a.next a.told a.count c.if-told-count.false
+unfolding ending nothing_behind
+returns-then-next-bytes c =
+    let a = c.args in
+    rw (eq-eqb a.told a.count c.if-told-count.true, drop-cons a.bytes.now a.next 0 c.if-next-bytes.true)

@@ -1,34 +1,46 @@
 -- `read_one` meets its contract: a refused record, the end and a record are the three kinds of turn, and each leaves what the call comes
 -- to as it was. A record's numbers have places, since each took a byte. Assumes nothing.
+use mathlib.Core.List.{[], ◌∷◌}
+use mathlib.Core.Path.{◌∙◌, ap, sym}
 use native.Mathlib.Omega.{arith}
-use Rattle.record.proofs.Readings.{record_stands, turn_refused, turn_end, size_fits, places_fit, turn_item}
+use lib.Seq.{length-take-le}
+use Rattle.record.specs.Turns.{last}
+use Rattle.record.proofs.Readings.{record_stands, turn_refused, turn_end, size_fits, turn_item}
 use Rattle.record.proofs.reading.read_one.Goals as goal
 
-pub returns-in_default : goal.returns-in_default
-returns-in_default c =
-    let a = c.args in
-    turn_refused a.bytes.now a.numbers.now a.t c.requires.0 c.requires.1 c.record_at-e.result c.record_at-e.ensures c.in_default.field-0 c.in_default.is c.fault_of.result c.fault_of.ensures c.ended.result c.ended.ensures
+pub returns-in-Err : goal.returns-in-Err
+returns-in-Err c = let a = c.args in turn_refused a.bytes.now a.numbers.now a.place _ c.record_at.ensures _ c.in-Err.is _ c.number.ensures
 
-pub returns-then-kind-eq0 : goal.returns-then-kind-eq0
-returns-then-kind-eq0 c =
+pub returns-then-e-eq0 : goal.returns-then-e-eq0
+returns-then-e-eq0 c =
     let a = c.args in
-    let s = record_stands a.bytes.now a.t.at c.record_at-e.result c.record_at-e.ensures c.in-Whole.kind c.in-Whole.a c.in-Whole.b c.in-Whole.c c.in-Whole.next c.in-Whole.is in
-    turn_end a.bytes.now a.numbers.now a.t c.requires.0 c.requires.1 c.in-Whole.kind c.in-Whole.a c.in-Whole.b c.in-Whole.c c.in-Whole.next s c.if-kind-eq0.true c.ending.result c.ending.ensures c.ended-then-kind-eq0.result c.ended-then-kind-eq0.ensures
+    ap (last a.numbers.now a.place.n) c.ending.ensures
+    ∙ turn_end (record_stands a.bytes.now a.place.at _ c.record_at.ensures c.in-Ok.e c.in-Ok.is) a.numbers.now a.place.n a.place.count c.if-e-eq0.true
+
+pub slice_bounds-put-end : goal.slice_bounds-put-end
+slice_bounds-put-end c =
+    let s = record_stands c.args.bytes.now c.args.place.at _ c.record_at.ensures c.in-Ok.e c.in-Ok.is in
+    (size_fits s c.size_of-size.ensures).1
+
+pub slice_bounds-put-end-2 : goal.slice_bounds-put-end-2
+slice_bounds-put-end-2 c =
+    let s = record_stands c.args.bytes.now c.args.place.at _ c.record_at.ensures c.in-Ok.e c.in-Ok.is in
+    sym (length-take-le c.size_of-size.result (c.in-Ok.e.kind ∷ c.in-Ok.e.a ∷ c.in-Ok.e.b ∷ c.in-Ok.e.c ∷ []) (size_fits s c.size_of-size.ensures).1)
 
 pub put-requires : goal.put-requires
 put-requires c =
-    let a = c.args in
-    let s = record_stands a.bytes.now a.t.at c.record_at-e.result c.record_at-e.ensures c.in-Whole.kind c.in-Whole.a c.in-Whole.b c.in-Whole.c c.in-Whole.next c.in-Whole.is in
-    size_fits a.bytes.now a.numbers.now a.t c.requires.0 c.requires.1 c.in-Whole.kind c.in-Whole.a c.in-Whole.b c.in-Whole.c c.in-Whole.next s c.size_of-size.result c.size_of-size.ensures
+    let s = record_stands c.args.bytes.now c.args.place.at _ c.record_at.ensures c.in-Ok.e c.in-Ok.is in
+    let f = size_fits s c.size_of-size.ensures in
+    let l = length-take-le c.size_of-size.result (c.in-Ok.e.kind ∷ c.in-Ok.e.a ∷ c.in-Ok.e.b ∷ c.in-Ok.e.c ∷ []) f.1 in
+    omega (arith, l)
 
 pub overflow_add-result : goal.overflow_add-result
 overflow_add-result c =
-    let a = c.args in
-    let s = record_stands a.bytes.now a.t.at c.record_at-e.result c.record_at-e.ensures c.in-Whole.kind c.in-Whole.a c.in-Whole.b c.in-Whole.c c.in-Whole.next c.in-Whole.is in
-    omega (arith, c.well_formed, places_fit a.bytes.now a.numbers.now a.t c.requires.0 c.requires.1 c.in-Whole.kind c.in-Whole.a c.in-Whole.b c.in-Whole.c c.in-Whole.next s c.size_of-size.result c.size_of-size.ensures)
+    let s = record_stands c.args.bytes.now c.args.place.at _ c.record_at.ensures c.in-Ok.e c.in-Ok.is in
+    omega (arith, size_fits s c.size_of-size.ensures)
 
 pub returns : goal.returns
 returns c =
     let a = c.args in
-    let s = record_stands a.bytes.now a.t.at c.record_at-e.result c.record_at-e.ensures c.in-Whole.kind c.in-Whole.a c.in-Whole.b c.in-Whole.c c.in-Whole.next c.in-Whole.is in
-    turn_item a.bytes.now a.numbers.now a.t c.requires.0 c.requires.1 c.in-Whole.kind c.in-Whole.a c.in-Whole.b c.in-Whole.c c.in-Whole.next s c.size_of-size.result c.size_of-size.ensures c.if-kind-eq0.false c.put.new.numbers c.put.ensures c.put.auto.numbers
+    let s = record_stands a.bytes.now a.place.at _ c.record_at.ensures c.in-Ok.e c.in-Ok.is in
+    turn_item s c.size_of-size.ensures a.numbers.now a.place.n a.place.count c.requires c.if-e-eq0.false c.put.new.numbers c.put.auto.numbers c.put.ensures

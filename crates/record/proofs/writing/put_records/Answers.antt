@@ -1,29 +1,16 @@
 -- `writing::put_records` meets its contract: each turn stores a record or refuses it, and the end is behind them. Assumes nothing.
-use mathlib.Core.Path.{refl, ◌∙◌}
-use Rattle.record.proofs.WritingRecords.{records_start, records_turn, records_stop, records_end}
+use mathlib.Core.Path.{◌∙◌}
+use Rattle.std.proofs.lemmas.Result.{err_from_is_err_and}
+use Rattle.record.proofs.WritingRecords.{records_turn, records_stop, records_end}
 use Rattle.record.proofs.writing.put_records.Goals as goal
 
-pub loop-next-init : goal.loop-next-init
-loop-next-init c = let a = c.args in (refl, records_start a.numbers.now a.bytes.now a.at a.to c.requires.0 c.requires.1)
-
-pub returns-then-answer-ne0 : goal.returns-then-answer-ne0
-returns-then-answer-ne0 c =
-    let a = c.args in
-    let v = c.loop-next in
-    let l = c.record_limits-fields in
-    let e = c.put_entry-took in
-    records_stop a.numbers.now a.bytes.now v.bytes a.at a.to v.next v.end v.records v.invariant.1 l.result.count l.result.most e.new.bytes e.result.next e.result.end e.result.answer c.loop-next-test.true l.ensures e.ensures c.if-answer-ne0.true
+pub returns-in_err-took : goal.returns-in_err-took
+returns-in_err-took c =
+    let p = err_from_is_err_and c.from_residual.result c.from_residual.ensures.1 in
+    rw (p.1, p.2) (records_stop c.loop-next.invariant c.loop-next-test.true c.fields_of_record-fields.ensures c.in_err-took.ensures)
 
 pub loop-next-preserved : goal.loop-next-preserved
-loop-next-preserved c =
-    let a = c.args in
-    let v = c.loop-next in
-    let l = c.record_limits-fields in
-    let e = c.put_entry-took in
-    (e.auto.bytes ∙ v.invariant.0, records_turn a.numbers.now a.bytes.now v.bytes a.at a.to v.next v.end v.records v.invariant.1 l.result.count l.result.most e.new.bytes e.result.next e.result.end e.result.answer c.loop-next-test.true l.ensures e.ensures c.if-answer-ne0.false)
+loop-next-preserved c = records_turn c.loop-next.invariant c.loop-next-test.true c.fields_of_record-fields.ensures c.in_ok-took.ensures
 
 pub returns : goal.returns
-returns c =
-    let a = c.args in
-    let v = c.loop-next in
-    c.put_end.ensures ∙ records_end a.numbers.now a.bytes.now v.bytes a.at a.to v.next v.end v.records v.invariant.1 c.loop-next-test.false
+returns c = c.put_end.ensures ∙ records_end c.loop-next.invariant c.loop-next-test.false

@@ -1,24 +1,16 @@
--- `writing::write` meets its contract: the first pass stores nothing of the lent bytes and gives the answer and how many bytes there are;
--- the second, for which the lent bytes are enough, stores them all. Assumes nothing.
-use mathlib.Core.List.{[]}
+-- `writing::write` meets its contract: the first pass stores nothing of the lent bytes and gives what refuses the list or how many bytes
+-- there are; the second, for which the lent bytes are enough, stores them all. Assumes nothing.
+use Rattle.std.proofs.lemmas.Result.{err_from_is_err_and}
 use Rattle.record.proofs.WritingAll.{write_refused, write_short, write_put}
 use Rattle.record.proofs.writing.write.Goals as goal
 
-pub returns-then-answer-ne0 : goal.returns-then-answer-ne0
-returns-then-answer-ne0 c =
-    let a = c.args in
-    let m = c.put_all-measured in
-    write_refused a.numbers.now a.bytes.now [] m.new.bytes m.result.count m.result.answer m.ensures c.if-answer-ne0.true
+pub returns-in_err-count : goal.returns-in_err-count
+returns-in_err-count c =
+    let p = err_from_is_err_and c.from_residual.result c.from_residual.ensures.1 in
+    rw (p.1, p.2) (write_refused _ _ _ _ c.in_err-count.ensures)
 
 pub returns-then-bytes-count : goal.returns-then-bytes-count
-returns-then-bytes-count c =
-    let a = c.args in
-    let m = c.put_all-measured in
-    write_short a.numbers.now a.bytes.now [] m.new.bytes m.result.count m.result.answer m.ensures c.if-answer-ne0.false c.if-bytes-count.true
+returns-then-bytes-count c = write_short _ _ _ _ _ c.in_ok-count.ensures c.if-bytes-count.true
 
 pub returns : goal.returns
-returns c =
-    let a = c.args in
-    let m = c.put_all-measured in
-    let w = c.put_all in
-    write_put a.numbers.now a.bytes.now [] m.new.bytes m.result.count m.result.answer m.ensures c.if-answer-ne0.false c.if-bytes-count.false w.new.bytes w.result.count w.result.answer w.ensures
+returns c = write_put _ _ _ _ _ c.in_ok-count.ensures c.if-bytes-count.false _ _ c.put_all-2.ensures

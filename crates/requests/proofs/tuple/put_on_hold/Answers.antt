@@ -1,8 +1,8 @@
--- `put_on_hold` meets its contract: the five places that are written are the hold. Assumes nothing.
-use Rattle.requests.proofs.Lending.{hold_box}
+-- `put_on_hold` meets its contract: the places that are written are the hold. Assumes nothing.
+use Rattle.requests.proofs.Holding.{hold_box}
 use Rattle.requests.proofs.tuple.put_on_hold.Goals as goal
 
-pub returns : goal.returns
-returns c ws fs ads ss ls ms ds =
-    let a = c.args in
-    hold_box a.numbers.now a.switches.now a.hold.now a.r a.n a.tag c.requires.0 c.requires.1 ws fs ads ss ls ms ds
+pub returns-clause-held : goal.returns-clause-held
+returns-clause-held c =
+    let u = c.args.unit.now in
+    hold_box u.numbers.now u.switches.now c.begin_hold.new.switches u.hold.now c.args.r c.args.n c.args.tag u.words.now u.flags.now u.addresses.now u.sizes.now u.links.now u.marks.now u.deeps.now c.begin_hold.ensures.long c.begin_hold.ensures.stored

@@ -1,6 +1,12 @@
 -- `open_first` meets its contract: a part of each column is lent, and comes back before the rest. Assumes nothing.
-use Rattle.turns.proofs.Parts.{opens_parts}
+use Rattle.turns.proofs.Parts.{parted, opens_parts}
 use Rattle.turns.proofs.opening.open_first.Goals as goal
 
-pub returns : goal.returns
-returns c = opens_parts c.args.numbers.now c.open.new.numbers c.args.switches.now c.open.new.switches c.args.hold.now c.open.new.hold c.args.words.now c.open.new.words c.args.flags.now c.open.new.flags c.args.addresses.now c.open.new.addresses c.args.sizes.now c.open.new.sizes c.args.links.now c.open.new.links c.args.marks.now c.open.new.marks c.args.deeps.now c.open.new.deeps c.args.m c.args.h c.part-wo.result c.part-fl.result c.part-ad.result c.part-si.result c.part-li.result c.part-ma.result c.part-de.result c.part-wo.ensures c.part-fl.ensures c.part-ad.ensures c.part-si.ensures c.part-li.ensures c.part-ma.ensures c.part-de.ensures c.open.auto.words c.open.auto.flags c.open.auto.addresses c.open.auto.sizes c.open.auto.links c.open.auto.marks c.open.auto.deeps c.open.result c.open.ensures
+pub returns-clause-opens : goal.returns-clause-opens
+returns-clause-opens c =
+    let x = c.open_parts.new in let same = c.open_parts.auto in
+    opens_parts c.args.unit.now c.args.m c.args.h c.open_parts.result
+    (parted c.args.unit.now x.numbers x.switches x.hold x.words x.flags x.addresses x.sizes x.links x.marks x.deeps c.args.m c.args.h c.min-words.result c.min-flags.result c.min-addresses.result c.min-sizes.result c.min-links.result c.min-marks.result c.min-deeps.result
+    (c.min-words.ensures, c.min-flags.ensures, c.min-addresses.ensures, c.min-sizes.ensures, c.min-links.ensures, c.min-marks.ensures, c.min-deeps.ensures)
+    (record { words = same.words; flags = same.flags; addresses = same.addresses; sizes = same.sizes; links = same.links; marks = same.marks; deeps = same.deeps }))
+    c.open_parts.ensures

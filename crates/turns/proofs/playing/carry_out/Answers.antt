@@ -1,14 +1,15 @@
 -- `carry_out` meets its contract, deed by deed; none is a step. Assumes nothing.
+use mathlib.Core.Logic.{⊎_elim}
 use Rattle.rules.specs.Box.{reply}
-use Rattle.lent.specs.Lent.{lent}
+use Rattle.lent.specs.Lent.{box_of}
 use Rattle.turns.proofs.Turning.{carried_say, carried_ask, carried_silent}
 use Rattle.turns.proofs.playing.carry_out.Goals as goal
 
-pub returns-in-Say : goal.returns-in-Say
-returns-in-Say c = let a = c.args in carried_say a.deed c.in-Say.a (lent a.numbers.now a.switches.now a.hold.now a.words.now a.flags.now a.addresses.now a.sizes.now a.links.now a.marks.now a.deeps.now) c.in-Say.is
+pub returns-in-Say-clause-answered : goal.returns-in-Say-clause-answered
+returns-in-Say-clause-answered c = carried_say c.args.deed c.in-Say.a (box_of c.args.unit.now) c.in-Say.is
 
-pub returns-in-Ask : goal.returns-in-Ask
-returns-in-Ask c = let a = c.args in carried_ask a.deed c.in-Ask.q (lent a.numbers.now a.switches.now a.hold.now a.words.now a.flags.now a.addresses.now a.sizes.now a.links.now a.marks.now a.deeps.now) (reply (lent c.requested.new.numbers c.requested.new.switches c.requested.new.hold c.requested.new.words c.requested.new.flags c.requested.new.addresses c.requested.new.sizes c.requested.new.links c.requested.new.marks c.requested.new.deeps) c.requested.result) c.in-Ask.is c.requested.ensures
+pub returns-in-Ask-clause-answered : goal.returns-in-Ask-clause-answered
+returns-in-Ask-clause-answered c = carried_ask c.args.deed c.in-Ask.q (box_of c.args.unit.now) (reply (box_of c.requested.new.unit) c.requested.result) c.in-Ask.is c.requested.ensures.answered
 
-pub returns-in-Silent : goal.returns-in-Silent
-returns-in-Silent c = let a = c.args in carried_silent a.deed (lent a.numbers.now a.switches.now a.hold.now a.words.now a.flags.now a.addresses.now a.sizes.now a.links.now a.marks.now a.deeps.now) c.in-Silent.is
+pub returns-in-Step-clause-answered : goal.returns-in-Step-clause-answered
+returns-in-Step-clause-answered c = ⊎_elim (λ step. absurd (c.requires.1 step)) (λ silent. carried_silent c.args.deed (box_of c.args.unit.now) silent) c.in-Step.is

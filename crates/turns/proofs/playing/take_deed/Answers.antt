@@ -2,19 +2,19 @@
 use mathlib.Core.Path.{refl}
 use native.Mathlib.Omega.{arith}
 use lib.ListN.{length, drop}
-use Rattle.lent.specs.Lent.{lent}
+use Rattle.lent.specs.Lent.{box_of}
 use Rattle.pieces.specs.Pieces.{next}
-use Rattle.turns.proofs.Turning.{no_step, carried_small, move_goes, move_waits, turn_waits, turn_goes}
+use Rattle.turns.proofs.Turning.{no_step, carried_small, move_goes, move_waits, rests_waiting, turn_goes}
 use Rattle.turns.proofs.playing.take_deed.Goals as goal
 
-pub returns-in_default : goal.returns-in_default
-returns-in_default c = let a = c.args in let r = c.requires in turn_waits a.last a.input.now a.out.now (lent a.numbers.now a.switches.now a.hold.now a.words.now a.flags.now a.addresses.now a.sizes.now a.links.now a.marks.now a.deeps.now) a.place a.used a.written r.0 (omega (arith, r.1)) (omega (arith, r.1)) (move_waits a.last a.place (length a.input.now) (drop a.used a.input.now) (next a.last a.place (drop a.used a.input.now)) refl c.next_move-m.result c.next_move-m.ensures c.in_default.is)
+pub returns-in_default-clause-rests : goal.returns-in_default-clause-rests
+returns-in_default-clause-rests c = let a = c.args in let f = a.from in λ none. (rests_waiting a.last a.input.now a.out.now (box_of a.unit.now) f.place f.used f.written (omega (arith, c.requires.1)) (move_waits a.last f.place (length a.input.now) (drop f.used a.input.now) (next a.last f.place (drop f.used a.input.now)) refl _ c.next_move.ensures c.in_default.is), refl, refl)
 
 pub carry_out-a-requires : goal.carry_out-a-requires
-carry_out-a-requires c = let a = c.args in let r = c.requires in let m = (move_goes a.last a.place a.input.now a.used r.0 (next a.last a.place (drop a.used a.input.now)) refl c.next_move-m.result c.next_move-m.ensures c.in-Go.deed c.in-Go.stands c.in-Go.next c.in-Go.is) in (r.3, no_step a.last a.place (drop a.used a.input.now) r.2 c.in-Go.deed c.in-Go.stands (drop c.in-Go.next a.input.now) m.is)
+carry_out-a-requires c = let a = c.args in let f = a.from in let m = move_goes a.last f.place a.input.now f.used c.requires.0 (next a.last f.place (drop f.used a.input.now)) refl _ c.next_move.ensures c.in-Some.m c.in-Some.is in (c.requires.3, no_step a.last f.place (drop f.used a.input.now) c.requires.2 c.in-Some.m.deed c.in-Some.m.place (drop c.in-Some.m.next a.input.now) m.is)
 
 pub print-behind-requires : goal.print-behind-requires
-print-behind-requires c = let a = c.args in let r = c.requires in let m = (move_goes a.last a.place a.input.now a.used r.0 (next a.last a.place (drop a.used a.input.now)) refl c.next_move-m.result c.next_move-m.ensures c.in-Go.deed c.in-Go.stands c.in-Go.next c.in-Go.is) in (carried_small c.in-Go.deed (lent a.numbers.now a.switches.now a.hold.now a.words.now a.flags.now a.addresses.now a.sizes.now a.links.now a.marks.now a.deeps.now) (lent c.carry_out-a.new.numbers c.carry_out-a.new.switches c.carry_out-a.new.hold c.carry_out-a.new.words c.carry_out-a.new.flags c.carry_out-a.new.addresses c.carry_out-a.new.sizes c.carry_out-a.new.links c.carry_out-a.new.marks c.carry_out-a.new.deeps) c.carry_out-a.result c.carry_out-a.ensures m.small, r.1)
+print-behind-requires c = let a = c.args in let f = a.from in let m = move_goes a.last f.place a.input.now f.used c.requires.0 (next a.last f.place (drop f.used a.input.now)) refl _ c.next_move.ensures c.in-Some.m c.in-Some.is in (carried_small c.in-Some.m.deed (box_of a.unit.now) (box_of c.carry_out-a.new.unit) c.carry_out-a.result c.carry_out-a.ensures.answered m.small, c.requires.1)
 
-pub returns : goal.returns
-returns c = let a = c.args in let r = c.requires in turn_goes a.last a.input.now a.out.now c.print-behind.new.out (lent a.numbers.now a.switches.now a.hold.now a.words.now a.flags.now a.addresses.now a.sizes.now a.links.now a.marks.now a.deeps.now) (lent c.carry_out-a.new.numbers c.carry_out-a.new.switches c.carry_out-a.new.hold c.carry_out-a.new.words c.carry_out-a.new.flags c.carry_out-a.new.addresses c.carry_out-a.new.sizes c.carry_out-a.new.links c.carry_out-a.new.marks c.carry_out-a.new.deeps) a.place c.in-Go.stands a.used c.in-Go.next a.written c.print-behind.result c.in-Go.deed c.carry_out-a.result r.0 (omega (arith, r.1)) (omega (arith, r.1)) (move_goes a.last a.place a.input.now a.used r.0 (next a.last a.place (drop a.used a.input.now)) refl c.next_move-m.result c.next_move-m.ensures c.in-Go.deed c.in-Go.stands c.in-Go.next c.in-Go.is) c.carry_out-a.ensures c.print-behind.ensures
+pub returns-clause-turned : goal.returns-clause-turned
+returns-clause-turned c = let a = c.args in let f = a.from in turn_goes a.last a.input.now a.out.now c.print-behind.new.out (box_of a.unit.now) (box_of c.carry_out-a.new.unit) f.place c.in-Some.m.place f.used c.in-Some.m.next f.written c.print-behind.result c.in-Some.m.deed c.carry_out-a.result c.requires.0 (omega (arith, c.requires.1)) (move_goes a.last f.place a.input.now f.used c.requires.0 (next a.last f.place (drop f.used a.input.now)) refl _ c.next_move.ensures c.in-Some.m c.in-Some.is) c.carry_out-a.ensures.answered c.print-behind.ensures

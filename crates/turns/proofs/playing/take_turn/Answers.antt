@@ -1,10 +1,12 @@
 -- `take_turn` meets its contract: no room for a line, a deed, steps, or nothing more to do. Assumes nothing.
-use Rattle.lent.specs.Lent.{lent}
-use Rattle.turns.proofs.Turning.{turn_full}
+use mathlib.Core.Path.{refl}
+use native.Mathlib.Omega.{arith}
+use Rattle.lent.specs.Lent.{box_of}
+use Rattle.turns.proofs.Turning.{rests_full}
 use Rattle.turns.proofs.playing.take_turn.Goals as goal
 
-pub returns-then-out-written-lt3 : goal.returns-then-out-written-lt3
-returns-then-out-written-lt3 c = let a = c.args in let r = c.requires in turn_full a.last a.input.now a.out.now (lent a.numbers.now a.switches.now a.hold.now a.words.now a.flags.now a.addresses.now a.sizes.now a.links.now a.marks.now a.deeps.now) a.place a.used a.written r.0 r.1 c.if-out-written-lt3.true
+pub returns-then-out-from-lt-LINE_ROOM-clause-rests : goal.returns-then-out-from-lt-LINE_ROOM-clause-rests
+returns-then-out-from-lt-LINE_ROOM-clause-rests c = let a = c.args in λ none. (rests_full a.last a.input.now a.out.now (box_of a.unit.now) a.from.place a.from.used a.from.written (omega (arith, c.if-out-from-lt-LINE_ROOM.true)), refl, refl)
 
-pub returns : goal.returns
-returns c = let a = c.args in c.take_end.ensures a.last (lent a.numbers.now a.switches.now a.hold.now a.words.now a.flags.now a.addresses.now a.sizes.now a.links.now a.marks.now a.deeps.now)
+pub returns-clause-rests : goal.returns-clause-rests
+returns-clause-rests c = let r = c.take_end.ensures.rests c.args.last (box_of c.args.unit.now) in λ none. ((r none).0, (r none).1, refl)
