@@ -36,6 +36,7 @@ pub fn gloamish_request(unit: &mut MemoryUnit<'_>, kind: u32, a: u32, b: u32, c:
 }
 
 // One step of the collector, as `memory::step` does it. It changes none of the hold's numbers.
+#[inline(always)]
 pub fn gloamish_step(unit: &mut MemoryUnit<'_>) -> u32
     ensures same_references { SameReferences unit.old unit.new }
     ensures answered { Steps (parts_of unit.old) (parts_of unit.new) result }

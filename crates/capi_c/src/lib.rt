@@ -126,11 +126,11 @@ pub extern "C" fn gloamish_run(
 ) -> u64
     ensures { Runs budget (parts numbers.old switches.old hold.now words.old flags.old addresses.old sizes.old links.old marks.old deeps.old) (parts numbers.new switches.new hold.now words.new flags.new addresses.new sizes.new links.new marks.new deeps.new) result }
 {
-    let mut held = *hold;
+    let mut kept = *hold;
     let mut unit = MemoryUnit {
         numbers,
         switches,
-        hold: &mut held,
+        hold: &mut kept,
         words,
         flags,
         addresses,

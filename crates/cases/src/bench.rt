@@ -3,7 +3,7 @@ use lent::MemoryUnit;
 use rules::Request;
 use std::io;
 
-// What is lent to each call, and what the last one answered.
+// What is lent to each call, and what the last one answered. Arrays of fixed length: there is no heap.
 #[derive(Drop)]
 pub struct Bench {
     pub answer: u32,

@@ -19,16 +19,6 @@ below_difference m l n o =
     (λ t. let h : n < m - l = ltb-true n (m - l) t in le-leb (l + n + 1) m (omega arith))
     (λ t. let h : m - l ≤ n = ltb-false n (m - l) t in lt-leb (l + n + 1) m (omega arith))
 
--- base + n lies below m
-pub below_sum : (m base n : ℕ) → base ≤ m → ltb n (m - base) ≡ ltb (base + n) m
-below_sum m base n o =
-    same_test (ltb n (m - base)) (ltb (base + n) m)
-    (λ t. let h : n < m - base = ltb-true n (m - base) t in lt-ltb (base + n) m (omega arith))
-    (λ t. let h : m - base ≤ n = ltb-false n (m - base) t in le-ltb (base + n) m (omega arith))
-
-pub above_sum : (m base n : ℕ) → m < base → false ≡ ltb (base + n) m
-above_sum m base n o = sym (le-ltb (base + n) m (omega arith))
-
 -- one more word reaches to m where the last lies below it
 pub one_more : (n m : ℕ) → leb (n + 1) m ≡ ltb n m
 one_more n m =

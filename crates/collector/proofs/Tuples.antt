@@ -85,10 +85,6 @@ module _ (n : ℕ) (b : Box) where
 pub rest_live : (p l k : ℕ) → p ≡ 0 → l ≡ cond (not (eqb p 0)) k l
 rest_live p l k e = simp (eq-eqb p 0 e)
 
--- outside Rest it grows
-pub cycle_live : (p l k : ℕ) → (p ≡ 0 → ⊥) → k ≡ cond (not (eqb p 0)) k l
-cycle_live p l k e = simp (ne_eqb p 0 e)
-
 -- the columns and the numbers as they are left; r may be any register
 pub made : (q : Registers) (ws : List ℕ) (fs : List Bool) (ads ss ls : List ℕ) (ms ds : List Bool) (r n tag control : ℕ) (s : State) (x : Box) → control ≡ s.free * 65536 + tag → x ≡ with_free (get_or ls s.free 0) (with_top (s.top + n + 1) (with_live (cond (not (eqb s.phase 0)) (s.live + n + 1) s.live) (boxed q (set ws s.top control) (set fs s.top false) (set ads s.free s.top) (set ss s.free n) ls (set ms s.free (not (eqb s.phase 0))) (set ds s.free false) s))) → put_register r (pointer s.free 0) x ≡ new_tuple r n tag (boxed q ws fs ads ss ls ms ds s)
 unfolding collecting new_entry take_room new_tuple

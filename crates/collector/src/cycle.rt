@@ -20,10 +20,6 @@ impl State {
         self.phase = 1;
         if self.held {
             self.begun = true;
-            return Answered {
-                state: self,
-                answer: Answer::Going,
-            };
         }
         Answered {
             state: self,

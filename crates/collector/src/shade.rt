@@ -26,6 +26,7 @@ impl State {
         let entries = self.h;
         let live = self.live;
         let m = self.m;
+        // The two tests of `is_entry`, each a way out like those behind them.
         if h == 0 {
             return false;
         }

@@ -23,10 +23,11 @@ pub struct State {
     pub tuple: u32,
     pub size: u32,
     pub index: u32,
-    // The copy register: a word on its way from src to dest.
+    // The copy register: a word on its way from src to dest. In two fields and no `Word`, as C lends it.
     pub copy: u32,
     pub copy_flag: bool,
-    // The hold: a GETM that waits for room, and whether a cycle began while it waited.
+    // The hold: a GETM that waits for room, and whether a cycle began while it waited. No `Option`: where nothing is held the other fields keep what
+    // they had, as document 01 wants of a field that a rule does not name.
     pub held: bool,
     pub begun: bool,
     pub hold_register: u16,
@@ -52,7 +53,7 @@ pub enum Answer {
 }
 
 impl Answer {
-    // The answer's number.
+    // The answer's number. A method and no `From`: its clause names the definition of the numbers.
     pub fn number(self) -> u32
         ensures { result ≡ number_of self }
     {

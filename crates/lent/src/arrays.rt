@@ -1,5 +1,6 @@
 // How the lent arrays become the struct that the collector's rules take, and how what a rule changed goes back: a field is stored
-// only where it differs, so that the compiler drops what a phase never touches.
+// only where it differs, so that the compiler drops what a phase never touches. All of it is on slices of the arrays, and not on the unit: the
+// proof that a store is read back needs their lengths.
 ghost use Rattle.std.specs.Prelude.{◌≡◌, ◌<◌, length};
 ghost use Rattle.lent.specs.Lent.{state_of, put_at, put_flag};
 

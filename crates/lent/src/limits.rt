@@ -18,6 +18,7 @@ const MOST_ENTRIES: u32 = 1024;
 const LAST_PHASE: u32 = 8;
 
 // Whether m words and h entries are sizes that a box may have.
+#[inline(always)]
 #[tactic(auto, unfolding(rules::specs::Limits::in_range))]
 fn in_range(m: u32, h: u32) -> bool
     ensures { result ≡ in_range m h }
@@ -27,6 +28,7 @@ fn in_range(m: u32, h: u32) -> bool
 
 impl MemoryUnit<'_> {
     // Whether the memory's two lengths are m and the directory's five h.
+    #[inline(always)]
     #[tactic(auto, unfolding(rules::specs::Box::lengths_are))]
     fn lengths_are(&self, m: u32, h: u32) -> bool
         ensures { result ≡ lengths_are m h (box_of self.now) }
@@ -43,6 +45,7 @@ impl MemoryUnit<'_> {
     }
 
     // Whether m and h are sizes that a box may have and are the lengths of the lent columns.
+    #[inline(always)]
     #[tactic(auto, unfolding(rules::specs::Box::right_sizes))]
     pub fn right_sizes(&self, m: u32, h: u32) -> bool
         ensures { result ≡ right_sizes m h (box_of self.now) }
@@ -51,6 +54,7 @@ impl MemoryUnit<'_> {
     }
 
     // Whether the sizes are right for the columns and the phase is 0 to 8. Where it is not so, every call answers 9.
+    #[inline(always)]
     #[tactic(auto, unfolding(rules::specs::Box::sound, crate::specs::Lent::state_of))]
     pub fn is_sound(&self) -> bool
         ensures { result ≡ sound (box_of self.now) }

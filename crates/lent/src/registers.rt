@@ -1,4 +1,5 @@
-// The registers in the lent arrays: numbers 14 to 21, and switches 0 to 7.
+// The registers in the lent arrays: numbers 14 to 21, and switches 0 to 7. On the two arrays, and not on the unit: the laws of a store are about
+// these two lists.
 ghost use Rattle.std.specs.Prelude.{List, ◌≡◌, ℕ, ◌<◌};
 ghost use Rattle.collector.specs.Boxed.{word_of};
 ghost use Rattle.lent.specs.Lent.{state_of, registers_of, register_in, put_in};

@@ -11,7 +11,6 @@ use Rattle.rules.specs.Parts.{Box}
 use Rattle.rules.specs.Box.{reply, right_sizes}
 use Rattle.rules.specs.Open.{opened_link, opened_links, opened, opening}
 use Rattle.rules.proofs.Sizes.{sizes_lengths, sizes_ranges}
-use Rattle.collector.proofs.Bounds.{at_most}
 use Rattle.lent.specs.Lent.{state_of, registers_of, lent, opened_numbers, opened_switches, opened_hold}
 
 -- ---- the free list
@@ -35,7 +34,7 @@ links_all l l₀ i e o h =
 -- ---- the opening
 
 pub links_short : (m h : ℕ) (b : Box) → right_sizes m h b ≡ true → length b.directory.links ≤ 4096
-links_short m h b r = at_most (length b.directory.links) h 4096 (sizes_lengths m h b r).links (sizes_ranges m h b r).entries
+links_short m h b r = omega (arith, (sizes_lengths m h b r).links, (sizes_ranges m h b r).entries)
 
 -- each column as its call leaves it, from columns of the lengths m and h, and the arrays of a new box
 pub open_done : (m h : ℕ) (b : Box) → right_sizes m h b ≡ true → (ns : List ℕ) (sw : List Bool) (hd : List ℕ) (ws : List ℕ) (fs : List Bool) (ads ss ls : List ℕ) (ms ds : List Bool) → ns ≡ opened_numbers m h → sw ≡ opened_switches → hd ≡ opened_hold → ws ≡ replicate (length b.memory.words) 0 → fs ≡ replicate (length b.memory.flags) false → ads ≡ replicate (length b.directory.addresses) 0 → ss ≡ replicate (length b.directory.sizes) 0 → ls ≡ opened_links (length b.directory.links) 0 (length b.directory.links) → ms ≡ replicate (length b.directory.marks) false → ds ≡ replicate (length b.directory.deeps) false → reply (lent ns sw hd ws fs ads ss ls ms ds) 0 ≡ opening m h b

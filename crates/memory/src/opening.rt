@@ -10,7 +10,8 @@ use lent::MemoryUnit;
 // Document 01's number for sizes that are out of range or not the lent lengths.
 const WRONG_SIZES: u32 = 10;
 
-// The state of a new box: registers data 0, the free list from 1, Rest, nothing held, and every other number 0.
+// The state of a new box: registers data 0, the free list from 1, Rest, nothing held, and every other number 0. On the three arrays alone, which is
+// all that it settles.
 fn new_state(
     m: u32,
     h: u32,

@@ -1,6 +1,6 @@
 // Each phase of the collector on the lent parts: the struct is taken out of the arrays, the phase's method is called, and what it
 // left is put back. Where one answers 32 the held request is granted, and its tuple is still to be made. A column that a method only
-// reads is taken out of the unit before the call, as the check of borrows wants it. The nine are not one function that is handed a method:
+// reads is taken out of the unit before the call (`&mut *unit.words`), as the check of borrows wants it. The nine are not one function that is handed a method:
 // each method's promise would have to be said again of the closure, and each has columns of its own.
 // A column that a method only reads is bound before the call: a shared field beside others of the unit is a call that the borrow
 // checker doesn't cover yet.

@@ -10,6 +10,8 @@ use crate::phases::{sweep_clear, sweep_write};
 use collector::{Answer, reaches};
 use lent::MemoryUnit;
 
+// The three steps at a word are not one function that goes by the phase: that was tried, and is slower (docs/DECISIONS.md, M-112).
+
 // Phase 2 at a word: it is looked at. Answers 30.
 #[tactic(auto, using(crate::proofs::WordSteps::scan_at))]
 fn scan_word(unit: &mut MemoryUnit<'_>) -> Answer
@@ -58,6 +60,7 @@ fn zero_word(unit: &mut MemoryUnit<'_>) -> Answer
 }
 
 // Whether the tuple has a word at index, and it is in memory.
+#[inline(always)]
 #[tactic(auto, unfolding(lent::specs::Lent::state_of))]
 fn at_word(unit: &MemoryUnit<'_>) -> bool
     ensures { result ≡ at_word (box_of unit.now) }
@@ -69,6 +72,7 @@ fn at_word(unit: &MemoryUnit<'_>) -> bool
 
 // A step that only goes through a tuple's words: phases 6 and 7, and phases 2, 5 and 8 up to the tuple's last word. Answers 30 or 9 as the
 // phase's rule does; and nothing, with nothing changed, where the step is another one.
+#[inline(always)]
 #[tactic(auto, using(crate::proofs::WordSteps::words_7, crate::proofs::WordSteps::words_6, crate::proofs::WordSteps::words_5, crate::proofs::WordSteps::words_2, crate::proofs::WordSteps::words_8, crate::proofs::WordSteps::words_none, crate::proofs::WordSteps::words_other), unfolding(lent::specs::Lent::state_of))]
 pub fn word_step(unit: &mut MemoryUnit<'_>) -> Option<Answer>
     requires { HasWords unit.old }
@@ -86,6 +90,7 @@ pub fn word_step(unit: &mut MemoryUnit<'_>) -> Option<Answer>
     if !at_word(unit) {
         return None;
     }
+    // By the phase's number, which is lent.
     match phase {
         5 => Some(read_word(unit)),
         2 => Some(scan_word(unit)),

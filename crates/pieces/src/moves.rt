@@ -17,7 +17,7 @@ pub struct Move {
     pub next: usize,
 }
 
-// A refusal, which is the last line.
+// A refusal by its number, which is the last line: one of the reader's, or 23 and 24, which are of the whole string.
 fn said(a: u32, place: Place, at: usize) -> Move
     ensures { result ≡ moved (Say a) (ended place) at }
 {

@@ -3,7 +3,8 @@ ghost use Rattle.std.specs.Prelude.{◌≡◌, ◌+◌, ◌<◌, ◌≤◌, leng
 ghost use Rattle.std.proofs.lemmas.List.Edits.{sets};
 ghost use Rattle.pieces.specs.Text.{line};
 
-// Puts the digits of a and a line feed at `at`, and gives the place behind them.
+// Puts the digits of a and a line feed at `at`, and gives the place behind them. No `Display`: it goes into lent bytes, of which the promise settles
+// each.
 pub fn put_line(a: u32, out: &mut [u8], at: usize) -> usize
     requires { (a < 100) × (at + 3 ≤ length out.old) }
     ensures { (out.new ≡ sets out.old at (line a)) × (result ≡ at + length (line a)) }

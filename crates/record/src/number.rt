@@ -19,7 +19,7 @@ pub enum Fault {
 }
 
 impl Fault {
-    // The refusal's number.
+    // The refusal's number. A method and no `From`: its clause names the definition of the numbers.
     pub fn number(self) -> u32
         ensures { result ≡ number_of self }
     {
@@ -66,7 +66,7 @@ fn groups(bytes: &[u8], at: usize, k: u32) -> Number
 
 // The number that begins at `at`: 20 where the bytes end inside it, 21 for a long form or more than 32 bits.
 #[tactic(auto, using(crate::proofs::Groups::bytes_read), unfolding(crate::specs::Number::number, crate::specs::Number::before))]
-pub fn number_at(bytes: &[u8], at: usize) -> Number
+pub(crate) fn number_at(bytes: &[u8], at: usize) -> Number
     ensures { said result ≡ as_number (length bytes.now) (number (drop at bytes.now)) }
 {
     if bytes.len() <= at {
@@ -84,7 +84,7 @@ pub fn number_at(bytes: &[u8], at: usize) -> Number
 }
 
 // What refuses a number that was not found.
-pub fn refusal(n: Number) -> Fault
+pub(crate) fn refusal(n: Number) -> Fault
     requires { (f : Fault) × (n ≡ Refused f) }
     ensures { n ≡ Refused result }
 {

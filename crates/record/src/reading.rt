@@ -22,7 +22,8 @@ struct Place {
     count: usize,
 }
 
-// What comes of a place: the place behind the record that begins there, or the answer, where the reading ends.
+// What comes of a place: the place behind the record that begins there, or the answer, where the reading ends. No `Result`: an end is no error, and
+// its answer may be 0.
 #[derive(Clone, Copy)]
 enum Turn {
     On(Place),
@@ -49,7 +50,7 @@ fn put(numbers: &mut [u32], n: usize, entry: &[u32])
 }
 
 // What an end with this count answers that stands before `next`: 23 where another number of records came before it, else 24 where
-// bytes follow, else 0.
+// bytes follow, else 0. Document 02's numbers, which the call gives: two of the three refuse no record.
 #[tactic(auto, unfolding(crate::specs::Reading::ending, crate::specs::Reading::nothing_behind))]
 fn ending(bytes: &[u8], next: usize, told: u32, count: usize) -> u32
     ensures { result ≡ ending count (0 ∷ told ∷ []) (drop next bytes.now) }
@@ -112,6 +113,7 @@ pub fn read(bytes: &[u8], numbers: &mut [u32]) -> Got
         n: 3,
         count: 0,
     };
+    // By records, each as long as its fields.
     loop {
         match read_one(bytes, numbers, place) {
             Turn::On(further) => place = further,

@@ -22,7 +22,7 @@ pub enum WriteFault {
 }
 
 impl WriteFault {
-    // Its number as an answer.
+    // Its number as an answer. A method and no `From`: its clause names the definition of the numbers.
     pub fn number(self) -> u32
         ensures { result ≡ number_of self }
     {
@@ -86,6 +86,7 @@ fn put_fields(
     requires { (at ≤ length numbers.now) × (to ≤ 5 * at) }
     ensures { Takes (take_fields fields.now (drop at numbers.now)) numbers.now bytes.old bytes.new at to result }
 {
+    // The place of the next number goes along by hand: a list that ends too soon is refused here, which a zip would pass over.
     let mut next = at;
     let mut end = to;
     for limit in fields {

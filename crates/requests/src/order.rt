@@ -20,7 +20,8 @@ fn is_register(r: u16) -> bool
     r < 8
 }
 
-// Whether every register that a request names is 0 to 7.
+// Whether every register that a request names is 0 to 7. It is asked once, and then stands as `r < 8` in what the functions of the kinds ask for: a
+// type for such a register would have to be made of each number again in each arm of `carry_out`.
 #[tactic(auto, unfolding(rules::specs::Request::registers_right))]
 fn registers_right(q: Request) -> bool
     ensures { result ≡ registers_right q }

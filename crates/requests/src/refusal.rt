@@ -24,7 +24,7 @@ pub enum Refusal {
 }
 
 impl Refusal {
-    // Its number.
+    // Its number. A method and no `From`: its clause names the definition of the numbers.
     pub(crate) fn number(self) -> u32
         ensures { result ≡ number self }
     {

@@ -16,7 +16,8 @@ pub struct Ran {
     pub steps: u32,
 }
 
-// What a step's answer makes the run's answer: 9, 8 or 0 where it stops the run, and 11 where the run goes on.
+// What a step's answer makes the run's answer: 9, 8 or 0 where it stops the run, and 11 where the run goes on, which is the run's own answer where
+// the budget is spent then.
 fn outcome(answer: Answer) -> u32
     ensures { result ≡ cond (eqb (number_of answer) 9) 9 (cond (eqb (number_of answer) 8) 8 (cond (eqb (number_of answer) 31 || eqb (number_of answer) 32) 0 11)) }
 {

@@ -11,7 +11,7 @@ use lent::MemoryUnit;
 use pieces::put_line;
 use steps::stepped;
 
-// One step of a box of which it is known whether it is sound.
+// One step of a box of which it is known whether it is sound, with its answer by the number that is printed.
 #[tactic(auto, using(steps::proofs::Ruling::step_refused))]
 fn one_step(unit: &mut MemoryUnit<'_>, right: bool) -> u32
     requires { sound (box_of unit.old) ≡ right }

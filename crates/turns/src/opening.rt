@@ -42,7 +42,8 @@ fn open_parts(
 }
 
 // Opens a box of m words and h entries in the first part of the columns. Answers 0; 10 where m or h is out of range or a column is too
-// short, and then all is as it was found.
+// short, and then all is as it was found. The seven lengths stand here and where player plays on: a function that hands seven lengths on
+// would be no plainer.
 pub fn open_first(unit: &mut MemoryUnit<'_>, m: u32, h: u32) -> u32
     ensures same_references { SameReferences unit.old unit.new }
     ensures opens { Opens m h (box_of unit.old) (box_of unit.new) result }

@@ -18,7 +18,7 @@ use trace::step_lines;
 const LINE_ROOM: usize = 3;
 
 // What a piece left: where the playing stands, how many bytes of the input were used and of the output written, and whether nothing can
-// be done with the bytes that are left.
+// be done with the bytes that are left. No `Option`: whether it waits or not, all four mean something.
 #[derive(Clone, Copy)]
 pub struct Went {
     pub place: Place,
@@ -35,7 +35,8 @@ struct Progress {
     written: usize,
 }
 
-// Does a deed other than a step on a box of which it is known whether it is sound, and gives the answer.
+// Does a deed other than a step on a box of which it is known whether it is sound, and gives the answer, a number that may be printed; 0 where
+// there is none, as the definition has it.
 fn carry_out(unit: &mut MemoryUnit<'_>, right: bool, deed: Deed) -> u32
     requires { (sound (box_of unit.old) ≡ right) × (deed ≡ Step → ⊥) }
     ensures same_references { SameReferences unit.old unit.new }
@@ -112,7 +113,8 @@ fn take_steps(unit: &mut MemoryUnit<'_>, right: bool, from: Progress, out: &mut 
     }
 }
 
-// After the end, and after a refusal: bytes behind the end are refused, and there is nothing else to do. The output has room for a line.
+// After the end, and after a refusal: bytes behind the end are refused, and there is nothing else to do. The output has room for a line. As
+// `pieces::next_move` says it of these stages, but without a move made of it, which would be no plainer.
 fn take_end(from: Progress, input: &[u8], out: &mut [u8]) -> Option<Progress>
     requires { (from.used ≤ length input.now) × (from.written + 3 ≤ length out.old) × (3 ≤ from.place.stage) }
     ensures turned { (last : Bool) (b : Box) → IfSome result (λ to. Turned last input.now out.old out.new b b from.place to.place from.used to.used from.written to.written) }
@@ -120,6 +122,7 @@ fn take_end(from: Progress, input: &[u8], out: &mut [u8]) -> Option<Progress>
 {
     let place = from.place;
     if place.stage == 3 && from.used < input.len() {
+        // Document 02's number, which is printed.
         let behind = put_line(24, out, from.written);
         return Some(Progress {
             place: Place {
@@ -134,7 +137,8 @@ fn take_end(from: Progress, input: &[u8], out: &mut [u8]) -> Option<Progress>
     None
 }
 
-// The steps that are left are done, or the next record, where there is something to do and the output has room for a line.
+// The steps that are left are done, or the next record, where there is something to do and the output has room for a line. `right` and `last`
+// go along as they are: both are known once for all turns, and mean nothing together.
 fn take_turn(
     unit: &mut MemoryUnit<'_>,
     right: bool,
@@ -173,13 +177,14 @@ pub fn play_on(
     ensures played { (result.used ≤ length input.now) × (leaves out.new result.written (box_of unit.new) result.place (drop result.used input.now) result.waits ≡ outcome out.old 0 (play_piece last (length out.old) place input.now (box_of unit.old))) }
 {
     let right = unit.is_sound();
-    // The place's fields apart, and not the place: with a struct carried from turn to turn playing took a fifth longer (docs/PERFORMANCE.md).
+    // The place's fields apart, and not the place: with a struct carried from turn to turn playing took 3 to 12 percent longer (docs/PERFORMANCE.md).
     let mut opened = place.opened;
     let mut stage = place.stage;
     let mut count = place.count;
     let mut left = place.left;
     let mut used: usize = 0;
     let mut written: usize = 0;
+    // By turns, each of as many steps or bytes as it takes.
     while let Some(to) = take_turn(
         unit,
         right,
