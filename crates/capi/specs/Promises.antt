@@ -28,10 +28,6 @@ parts ns sw hd ws fs ads ss ls ms ds = record { numbers = ns; switches = sw; hol
 abbrev pub parts_of : MemoryUnit → Lent
 parts_of u = parts u.numbers.now u.switches.now u.hold.now u.words.now u.flags.now u.addresses.now u.sizes.now u.links.now u.marks.now u.deeps.now
 
--- the same after a call that only reads the hold's numbers: they are what u had
-abbrev pub parts_held : MemoryUnit → MemoryUnit → Lent
-parts_held u v = parts v.numbers.now v.switches.now u.hold.now v.words.now v.flags.now v.addresses.now v.sizes.now v.links.now v.marks.now v.deeps.now
-
 -- the box that the parts make
 abbrev pub box_of : Lent → Box
 box_of p = lent p.numbers p.switches p.hold p.words p.flags p.addresses p.sizes p.links p.marks p.deeps

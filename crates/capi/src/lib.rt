@@ -1,12 +1,13 @@
 // The C interface: the memory unit's calls, and in strings.rt the reader and the writer of records. Crate capi_c exports them: a C caller lends
-// the state as three arrays and the seven columns (crate lent says what stands where), and the export makes the memory unit of them. A C caller
-// sees to it that flags are 0 or 1, that the arrays have their lengths, and that no two of the lent parts overlap; whatever they hold is right.
+// the state as three arrays and the seven columns (crate lent says what stands where). For the opening and a request the export makes the memory
+// unit of them; a step and a run are lent the parts. A C caller sees to it that flags are 0 or 1, that the arrays have their lengths, and that no two
+// of the lent parts overlap; whatever they hold is right.
 #![tactic(auto)]
 
 mod strings;
 
 ghost use Rattle.lent.specs.Lent.{SameReferences};
-ghost use Rattle.capi.specs.Promises.{parts_of, parts_held, Opens, Asks, Steps, Runs};
+ghost use Rattle.capi.specs.Promises.{parts, parts_of, Opens, Asks, Steps, Runs};
 
 use lent::MemoryUnit;
 pub use strings::{gloamish_read, gloamish_write};
@@ -35,24 +36,48 @@ pub fn gloamish_request(unit: &mut MemoryUnit<'_>, kind: u32, a: u32, b: u32, c:
     memory::request(unit, q)
 }
 
-// One step of the collector, as `memory::step` does it. It changes none of the hold's numbers.
+// One step of the collector, as `memory::step` does it. It is lent the parts as C lends them, the hold's numbers only to be read: a unit would need
+// them to be written.
 #[inline(always)]
-pub fn gloamish_step(unit: &mut MemoryUnit<'_>) -> u32
-    ensures same_references { SameReferences unit.old unit.new }
-    ensures answered { Steps (parts_of unit.old) (parts_of unit.new) result }
-    ensures held { Steps (parts_of unit.old) (parts_held unit.old unit.new) result }
+pub fn gloamish_step(
+    numbers: &mut [u32; 22],
+    switches: &mut [bool; 11],
+    hold: &[u16; 3],
+    words: &mut [u32],
+    flags: &mut [bool],
+    addresses: &mut [u32],
+    sizes: &mut [u32],
+    links: &mut [u32],
+    marks: &mut [bool],
+    deeps: &mut [bool],
+) -> u32
+    ensures { Steps (parts numbers.old switches.old hold.now words.old flags.old addresses.old sizes.old links.old marks.old deeps.old) (parts numbers.new switches.new hold.now words.new flags.new addresses.new sizes.new links.new marks.new deeps.new) result }
 {
-    memory::step(unit)
+    memory::step_parts(
+        numbers, switches, hold, words, flags, addresses, sizes, links, marks, deeps,
+    )
 }
 
-// A run with a budget of steps, as `memory::run` does it. Gives steps * 256 + answer. It changes none of the
-// hold's numbers.
+// A run with a budget of steps, as `memory::run` does it, and lent the parts likewise. Gives steps * 256 + answer.
+#[inline(always)]
 #[tactic(auto, unfolding(crate::specs::Calls::c_run))]
-pub fn gloamish_run(unit: &mut MemoryUnit<'_>, budget: u32) -> u64
-    ensures same_references { SameReferences unit.old unit.new }
-    ensures answered { Runs budget (parts_of unit.old) (parts_of unit.new) result }
-    ensures held { Runs budget (parts_of unit.old) (parts_held unit.old unit.new) result }
+pub fn gloamish_run(
+    budget: u32,
+    numbers: &mut [u32; 22],
+    switches: &mut [bool; 11],
+    hold: &[u16; 3],
+    words: &mut [u32],
+    flags: &mut [bool],
+    addresses: &mut [u32],
+    sizes: &mut [u32],
+    links: &mut [u32],
+    marks: &mut [bool],
+    deeps: &mut [bool],
+) -> u64
+    ensures { Runs budget (parts numbers.old switches.old hold.now words.old flags.old addresses.old sizes.old links.old marks.old deeps.old) (parts numbers.new switches.new hold.now words.new flags.new addresses.new sizes.new links.new marks.new deeps.new) result }
 {
-    let done = memory::run(unit, budget);
+    let done = memory::run_parts(
+        budget, numbers, switches, hold, words, flags, addresses, sizes, links, marks, deeps,
+    );
     u64::from(done.steps) * 256 + u64::from(done.answer)
 }

@@ -1,6 +1,6 @@
-// The C interface as a static library, for C and Rust to link. Each export makes the memory unit of what it is lent, as a C caller lends it
-// part by part, and calls the function of crate capi that has its name, with the same promise. A C caller sees to what capi says of the lent
-// parts.
+// The C interface as a static library, for C and Rust to link. Each export calls the function of crate capi that has its name, with the same
+// promise; for the opening and a request it makes the memory unit of what a C caller lends part by part. A C caller sees to what capi says of the
+// lent parts.
 #![tactic(auto)]
 
 ghost use Rattle.capi.specs.Promises.{parts, Opens, Asks, Steps, Runs};
@@ -93,20 +93,9 @@ pub extern "C" fn gloamish_step(
 ) -> u32
     ensures { Steps (parts numbers.old switches.old hold.now words.old flags.old addresses.old sizes.old links.old marks.old deeps.old) (parts numbers.new switches.new hold.now words.new flags.new addresses.new sizes.new links.new marks.new deeps.new) result }
 {
-    let mut held = *hold;
-    let mut unit = MemoryUnit {
-        numbers,
-        switches,
-        hold: &mut held,
-        words,
-        flags,
-        addresses,
-        sizes,
-        links,
-        marks,
-        deeps,
-    };
-    capi::gloamish_step(&mut unit)
+    capi::gloamish_step(
+        numbers, switches, hold, words, flags, addresses, sizes, links, marks, deeps,
+    )
 }
 
 // A run with a budget of steps, as `memory::run` does it. Gives steps * 256 + answer. It only reads the hold's numbers, which no run changes.
@@ -126,20 +115,9 @@ pub extern "C" fn gloamish_run(
 ) -> u64
     ensures { Runs budget (parts numbers.old switches.old hold.now words.old flags.old addresses.old sizes.old links.old marks.old deeps.old) (parts numbers.new switches.new hold.now words.new flags.new addresses.new sizes.new links.new marks.new deeps.new) result }
 {
-    let mut kept = *hold;
-    let mut unit = MemoryUnit {
-        numbers,
-        switches,
-        hold: &mut kept,
-        words,
-        flags,
-        addresses,
-        sizes,
-        links,
-        marks,
-        deeps,
-    };
-    capi::gloamish_run(&mut unit, budget)
+    capi::gloamish_run(
+        budget, numbers, switches, hold, words, flags, addresses, sizes, links, marks, deeps,
+    )
 }
 
 // Reads a string of bytes, as `record::read` does: edition, M, H and each whole record's kind and fields go into the front of the lent

@@ -4,7 +4,7 @@ use rules::Request;
 use std::io;
 
 // What is lent to each call, and what the last one answered. Arrays of fixed length: there is no heap.
-#[derive(Drop)]
+#[derive(Clone, Copy)]
 pub struct Bench {
     pub answer: u32,
     pub numbers: [u32; 22],

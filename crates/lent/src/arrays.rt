@@ -7,7 +7,7 @@ ghost use Rattle.lent.specs.Lent.{state_of, put_at, put_flag};
 use collector::State;
 
 // The struct of the lent arrays.
-pub(crate) fn taken(numbers: &[u32], switches: &[bool], hold: &[u16]) -> State
+pub fn taken(numbers: &[u32], switches: &[bool], hold: &[u16]) -> State
     requires { (length numbers.now ≡ 22) × (length switches.now ≡ 11) × (length hold.now ≡ 3) }
     ensures { result ≡ state_of numbers.now switches.now hold.now }
 {
@@ -58,7 +58,7 @@ fn put_switch(switches: &mut [bool], i: usize, old: bool, new: bool)
 
 // Puts back top, free, phase and live.
 #[inline(always)]
-pub(crate) fn put_room(numbers: &mut [u32], before: State, after: State)
+pub fn put_room(numbers: &mut [u32], before: State, after: State)
     requires { length numbers.old ≡ 22 }
     ensures long { length numbers.old ≡ 22 }
     ensures stored { numbers.new ≡ put_at (put_at (put_at (put_at numbers.old 2 before.top after.top) 3 before.free after.free) 4 before.phase after.phase) 5 before.live after.live }
@@ -71,7 +71,7 @@ pub(crate) fn put_room(numbers: &mut [u32], before: State, after: State)
 
 // Puts back the lists and the copy register.
 #[inline(always)]
-pub(crate) fn put_lists(numbers: &mut [u32], before: State, after: State)
+pub fn put_lists(numbers: &mut [u32], before: State, after: State)
     requires { length numbers.old ≡ 22 }
     ensures long { length numbers.old ≡ 22 }
     ensures stored { numbers.new ≡ put_at (put_at (put_at numbers.old 6 before.current after.current) 7 before.next after.next) 13 before.copy after.copy }
@@ -83,7 +83,7 @@ pub(crate) fn put_lists(numbers: &mut [u32], before: State, after: State)
 
 // Puts back what the scan and the sweep walk with.
 #[inline(always)]
-pub(crate) fn put_walk(numbers: &mut [u32], before: State, after: State)
+pub fn put_walk(numbers: &mut [u32], before: State, after: State)
     requires { length numbers.old ≡ 22 }
     ensures long { length numbers.old ≡ 22 }
     ensures stored { numbers.new ≡ put_at (put_at (put_at (put_at (put_at numbers.old 8 before.src after.src) 9 before.dest after.dest) 10 before.tuple after.tuple) 11 before.size after.size) 12 before.index after.index }
@@ -97,7 +97,7 @@ pub(crate) fn put_walk(numbers: &mut [u32], before: State, after: State)
 
 // Puts back the copy's flag, and whether a request is held and a cycle began under it.
 #[inline(always)]
-pub(crate) fn put_switches(switches: &mut [bool], before: State, after: State)
+pub fn put_switches(switches: &mut [bool], before: State, after: State)
     requires { length switches.old ≡ 11 }
     ensures long { length switches.old ≡ 11 }
     ensures stored { switches.new ≡ put_flag (put_flag (put_flag switches.old 8 before.copy_flag after.copy_flag) 9 before.held after.held) 10 before.begun after.begun }

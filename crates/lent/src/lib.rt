@@ -7,4 +7,5 @@ mod registers;
 mod tuple;
 mod unit;
 
+pub use arrays::{put_lists, put_room, put_switches, put_walk, taken};
 pub use unit::MemoryUnit;

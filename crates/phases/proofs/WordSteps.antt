@@ -1,18 +1,20 @@
--- A step that only goes through a tuple's words, by its cases; and what it comes to: a reply is the step's. By computing the definition under
--- the facts of each case. Assumes nothing.
+-- A step that only goes through a tuple's words, by its cases; and what it comes to: a reply is the step's, or nothing was done. By computing the
+-- definition under the facts of each case. Assumes nothing.
 use Prim.Native.Nat.{ℕ, ◌+◌, ◌<◌, ◌≤◌}
 use mathlib.Core.Bool.{Bool, true, false, cond}
 use mathlib.Core.Logic.{◌≢◌}
 use mathlib.Core.Path.{◌≡◌, refl, sym, ap, subst}
+use native.Mathlib.Omega.{arith}
 use lib.Dec.{eqb}
 use borrow.Author.Tests.{lt-ltb, eq-eqb, ne_eqb, eqb-true}
 use Rattle.std.specs.Prelude.{Option, None, Some, IfSome}
 use Rattle.rules.specs.Parts.{Box}
 use Rattle.rules.specs.Box.{Reply, reply, sound}
 use Rattle.rules.specs.Collector.{scan_word, mark_scan, copy_word, sweep_read, sweep_clear, sweep_write, zero_word, sweep_zero, rule_of, step}
+use Rattle.rules.proofs.Demand1.{step_between}
 use Rattle.collector.proofs.Marking.{mark_scan_word}
 use Rattle.collector.proofs.Moving.{read_word, zero_done}
-use Rattle.phases.specs.Words.{at_word, word_step}
+use Rattle.phases.specs.Words.{at_word, word_step, or_none, word_reply}
 
 -- ---- the rules at a word: x is what the method left of b
 
@@ -92,3 +94,15 @@ module _ (b : Box) where
   pub word_done : sound b ≡ true → (r : Reply) → word_step b ≡ Some r → r ≡ step b
   unfolding step Came
   word_done s r e = let q : r ≡ rule_of b.collector.phase b = subst Came e came in simp (s, q)
+
+  -- as one reply, with 0 nothing was done
+  pub word_left : sound b ≡ true → (x : Box) (a : ℕ) → reply x a ≡ word_reply b → a ≡ 0 → x ≡ b
+  unfolding word_reply
+  word_left s x a e z = go (word_step b) refl e
+    where
+      go : (o : Option Reply) → word_step b ≡ o → reply x a ≡ or_none b o → x ≡ b
+      go None p q = ap (λ (r : Reply). r.box) q
+      go (Some r) p q =
+          let f : a ≡ r.answer = ap (λ (y : Reply). y.answer) q in
+          let g : r.answer ≡ (step b).answer = ap (λ (y : Reply). y.answer) (word_done s r p) in
+          absurd (omega (arith, (step_between b).0))

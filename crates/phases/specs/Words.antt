@@ -1,7 +1,7 @@
 -- A step that only goes through a tuple's words.
 use Rattle.std.specs.Prelude.{◌+◌, ◌<◌, ◌≤◌, Bool, Option, None, Some, cond, ◌&&◌, leb, ltb, eqb}
 use Rattle.rules.specs.Parts.{Box}
-use Rattle.rules.specs.Box.{Reply}
+use Rattle.rules.specs.Box.{Reply, reply}
 use Rattle.rules.specs.Collector.{mark_scan, sweep_read, sweep_clear, sweep_write, sweep_zero}
 use Rattle.collector.specs.declared.state.State.{State}
 
@@ -23,3 +23,11 @@ word_step b =
     (cond (eqb b.collector.phase 2) (Some (mark_scan b))
     (cond (eqb b.collector.phase 8) (Some (sweep_zero b)) None)))
     None))
+
+-- the same as one reply: 0 is no answer of a step, and another one is to be done
+abbrev pub or_none : Box → Option Reply → Reply
+or_none b None = reply b 0
+or_none b (Some r) = r
+
+unfoldable pub word_reply : Box → Reply
+word_reply b = or_none b (word_step b)

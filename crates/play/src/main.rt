@@ -3,7 +3,7 @@
 // whose promise says it all. The box's columns are as large as the largest box.
 #![tactic(auto)]
 
-ghost use Rattle.std.specs.Prelude.{◌≡◌, ◌+◌, ◌-◌, ◌<◌, ◌≤◌, length, take, drop, IsTrue, IsFalse, IfOk, OnOk, OnErr, ◌↔◌};
+ghost use Rattle.std.specs.Prelude.{◌≡◌, ◌+◌, ◌-◌, ◌<◌, ◌≤◌, length, take, drop, IsTrue, IsFalse, IfOk, IfSome, IsNone, OnOk, OnErr, ◌↔◌};
 ghost use Rattle.std.specs.Io.KnownBytes.{Appends, Consumes, IsAtEnd, Keeps};
 ghost use Rattle.lent.specs.Lent.{box_of, SameReferences};
 ghost use Rattle.player.specs.Promises.{Plays};
@@ -138,6 +138,17 @@ fn turn<R: Read>(
     Ok(play_some(unit, s, input, out))
 }
 
+// Where the next turn begins: where this one ended, or nowhere, so that the loop ends where the playing does and nowhere else.
+fn next_turn(r: Reader, printed: bool) -> Option<Reader>
+    ensures goes_on { IfSome result (λ s. (s ≡ r) × IsTrue printed × (IsTrue r.wants → IsFalse r.last)) }
+    ensures ends { IsNone result → IsTrue printed → (IsTrue r.wants × IsTrue r.last) }
+{
+    if goes_on(printed, r.wants, r.last) {
+        return Some(r);
+    }
+    None
+}
+
 fn main(rt: HostRuntime) -> io::Result<()> {
     let mut stdin = rt.stdin();
     let mut stdout = rt.stdout();
@@ -170,11 +181,12 @@ fn main(rt: HostRuntime) -> io::Result<()> {
     };
     // A proved loop has to end, and nothing says that the input does. So turns are counted, up to a number that no run comes to.
     for _ in 0..u64::MAX {
-        r = turn(&mut unit, &mut stdin, r, &mut input, &mut out)?;
-        let printed = print(&mut stdout, &out, r.written)?;
-        if !goes_on(printed, r.wants, r.last) {
+        let played = turn(&mut unit, &mut stdin, r, &mut input, &mut out)?;
+        let printed = print(&mut stdout, &out, played.written)?;
+        let Some(next) = next_turn(played, printed) else {
             break;
-        }
+        };
+        r = next;
     }
     Ok(())
 }

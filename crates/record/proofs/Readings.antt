@@ -9,8 +9,8 @@ use native.Mathlib.Omega.{arith}
 use native.Mathlib.Numerals.{add-one}
 use native.Mathlib.Nat.{add-zero, zero-add}
 use lib.Dec.{leb, eqb}
-use lib.ListN.{length, get_or, take, drop, length-append, length-drop, take-append-drop}
-use lib.Seq.{take_at, drop-append-add, drop-drop, length-take-le}
+use lib.ListN.{length, get_or, take, drop, set, length-append, length-drop, take-append-drop}
+use lib.Seq.{take_at, drop-append-add, drop-drop, length-take-le, sets, sets-eq}
 use borrow.Author.Tests.{leb-true, eq-eqb, ne_eqb, le-leb, lt-leb}
 use Rattle.std.specs.declared.result.Result.{Result}
 use Rattle.std.specs.declared.result.Result.TheVariants.{Ok, Err}
@@ -165,6 +165,31 @@ put_more old n ms ns h =
     ap (λ (r : List ℕ). r ++ ns ++ drop (n + length ms + length ns) (p ++ q)) (take_at p q (n + length ms) l)
     ∙ ap (λ (r : List ℕ). p ++ ns ++ r) d
     ∙ ap (λ (r : List ℕ). r ++ drop (n + length (ms ++ ns)) old) (append_assoc (take n old) ms ns)
+
+-- what stores leave
+put_stored : (old : List ℕ) (n : ℕ) (ns : List ℕ) → n + length ns ≤ length old → sets old n ns ≡ put_at old n ns
+unfolding put_at
+put_stored old n ns h = sets-eq ns old n h
+
+-- two, three and four stores, as the code makes them
+module _ (old : List ℕ) (n size k a b c : ℕ) (fits : n + size ≤ length old) where
+  pub put_two : size ≡ 2 → set (set old n k) (n + 1) a ≡ put_at old n (take size (k ∷ a ∷ b ∷ c ∷ []))
+  put_two e =
+      let p : n + 1 ≡ suc n = omega arith in
+      rw (e, p) (put_stored old n (k ∷ a ∷ []) (omega arith))
+
+  pub put_three : size ≡ 3 → set (set (set old n k) (n + 1) a) (n + 2) b ≡ put_at old n (take size (k ∷ a ∷ b ∷ c ∷ []))
+  put_three e =
+      let p : n + 1 ≡ suc n = omega arith in
+      let q : n + 2 ≡ suc (suc n) = omega arith in
+      rw (e, p, q) (put_stored old n (k ∷ a ∷ b ∷ []) (omega arith))
+
+  pub put_four : size ≡ 4 → set (set (set (set old n k) (n + 1) a) (n + 2) b) (n + 3) c ≡ put_at old n (take size (k ∷ a ∷ b ∷ c ∷ []))
+  put_four e =
+      let p : n + 1 ≡ suc n = omega arith in
+      let q : n + 2 ≡ suc (suc n) = omega arith in
+      let r : n + 3 ≡ suc (suc (suc n)) = omega arith in
+      rw (e, p, q, r) (put_stored old n (k ∷ a ∷ b ∷ c ∷ []) (omega arith))
 
 -- ---- what a call comes to, before and after a turn
 

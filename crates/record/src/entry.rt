@@ -102,8 +102,8 @@ fn three(bytes: &[u8], at: usize, kind: u32) -> Result<Entry, Fault>
     })
 }
 
-// How many fields a kind has; 0 for a kind that there is not. Apart from the table in kinds.rt, as is the next: playing reads by these, and `read`, which
-// takes a row of that table, became a fifth slower with it (docs/PERFORMANCE.md).
+// How many fields a kind has; 0 for a kind that there is not. Apart from the table in kinds.rt, as are the next and `size_of` in reading.rt: reading by
+// a row of that table is slower (docs/PERFORMANCE.md).
 #[tactic(auto, using(crate::proofs::KindTable::no_kind), unfolding(crate::specs::Fields::kinds, crate::specs::Fields::row))]
 fn fields_of(kind: u32) -> u32
     ensures { result ≡ fields_in (kinds kind) }

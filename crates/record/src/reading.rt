@@ -1,11 +1,10 @@
 // Reading a whole string: edition, M and H, then record after record up to the end or to the first fault.
-ghost use Rattle.std.specs.Prelude.{[], ◌∷◌, ◌≡◌, ◌+◌, ◌≤◌, length, drop};
+ghost use Rattle.std.specs.Prelude.{[], ◌∷◌, ◌≡◌, ◌+◌, ◌≤◌, length, take, drop};
 ghost use Rattle.record.specs.Reading.{ending};
 ghost use Rattle.record.specs.Promises.{Reads};
 ghost use Rattle.record.specs.Turns.{size_of, put_at, Fit, Turned};
 
-use crate::entry::{head_of, record_at};
-use crate::kinds::fields_of_kind;
+use crate::entry::{Entry, head_of, record_at};
 
 // How many numbers were put, and the answer. No `Result`: on a refusal both mean something, for what stands before the fault was put.
 #[derive(Clone, Copy)]
@@ -30,23 +29,35 @@ enum Turn {
     Ended(u32),
 }
 
-// How many numbers a record of this kind has, the kind among them; 1 for an unknown kind.
-#[tactic(auto, unfolding(crate::specs::Turns::size_of))]
+// How many numbers a record of this kind has, the kind among them; 1 for an unknown kind. Written out for speed, as `fields_of` in entry.rt is.
+#[tactic(auto, using(crate::proofs::KindTable::no_kind), unfolding(crate::specs::Turns::size_of, crate::specs::Fields::kinds, crate::specs::Fields::row))]
 fn size_of(kind: u32) -> usize
     ensures { result ≡ size_of kind }
 {
-    match fields_of_kind(kind) {
-        Some(fields) => 1 + fields.len(),
-        None => 1,
+    match kind {
+        0 | 2 | 11 => 2,
+        1 | 3 | 4 | 8 | 9 => 3,
+        5 | 6 | 7 | 10 => 4,
+        _ => 1,
     }
 }
 
-// An entry's numbers go into the places from `n` on.
-fn put(numbers: &mut [u32], n: usize, entry: &[u32])
-    requires { n + length entry.now ≤ length numbers.old }
-    ensures { numbers.new ≡ put_at numbers.old n entry.now }
+// The first `size` of an entry's kind and fields go into the places from `n` on. By single stores: two to four numbers copied as a slice were a
+// call of memcpy for each record, which a C caller had to link, and reading took about twice as long (docs/PERFORMANCE.md).
+fn put(numbers: &mut [u32], n: usize, size: usize, e: Entry)
+    requires { (n + size ≤ length numbers.old) × (2 ≤ size) × (size ≤ 4) }
+    ensures { numbers.new ≡ put_at numbers.old n (take size (e.kind ∷ e.a ∷ e.b ∷ e.c ∷ [])) }
 {
-    numbers[n..n + entry.len()].copy_from_slice(entry);
+    numbers[n] = e.kind;
+    numbers[n + 1] = e.a;
+    if size == 2 {
+        return;
+    }
+    numbers[n + 2] = e.b;
+    if size == 3 {
+        return;
+    }
+    numbers[n + 3] = e.c;
 }
 
 // What an end with this count answers that stands before `next`: 23 where another number of records came before it, else 24 where
@@ -78,7 +89,7 @@ fn read_one(bytes: &[u8], numbers: &mut [u32], place: Place) -> Turn
         return Turn::Ended(ending(bytes, e.next, e.a, count));
     }
     let size = size_of(e.kind);
-    put(numbers, n, &[e.kind, e.a, e.b, e.c][..size]);
+    put(numbers, n, size, e);
     Turn::On(Place {
         at: e.next,
         n: n + size,
@@ -107,7 +118,7 @@ pub fn read(bytes: &[u8], numbers: &mut [u32]) -> Got
             };
         }
     };
-    put(numbers, 0, &[e.kind, e.a, e.b]);
+    put(numbers, 0, 3, e);
     let mut place = Place {
         at: e.next,
         n: 3,

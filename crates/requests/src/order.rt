@@ -22,20 +22,22 @@ fn is_register(r: u16) -> bool
 
 // Whether every register that a request names is 0 to 7. It is asked once, and then stands as `r < 8` in what the functions of the kinds ask for: a
 // type for such a register would have to be made of each number again in each arm of `carry_out`.
+// An arm for each kind: with the kinds of one test joined in an arm the compiled call readied all columns before it, and a refused request took a
+// quarter longer (docs/PERFORMANCE.md).
 #[tactic(auto, unfolding(rules::specs::Request::registers_right))]
 fn registers_right(q: Request) -> bool
     ensures { result ≡ registers_right q }
 {
     match q {
-        Request::Setd { r, .. }
-        | Request::Nil { r }
-        | Request::Advance { r, .. }
-        | Request::Getm { r, .. } => is_register(r),
-        Request::Move { r, s }
-        | Request::Load { r, s, .. }
-        | Request::Store { r, s, .. }
-        | Request::Size { r, s }
-        | Request::Tag { r, s } => is_register(r) && is_register(s),
+        Request::Setd { r, .. } => is_register(r),
+        Request::Nil { r } => is_register(r),
+        Request::Move { r, s } => is_register(r) && is_register(s),
+        Request::Advance { r, .. } => is_register(r),
+        Request::Getm { r, .. } => is_register(r),
+        Request::Load { r, s, .. } => is_register(r) && is_register(s),
+        Request::Store { r, s, .. } => is_register(r) && is_register(s),
+        Request::Size { r, s } => is_register(r) && is_register(s),
+        Request::Tag { r, s } => is_register(r) && is_register(s),
         Request::Same { r, s, t } => is_register(r) && is_register(s) && is_register(t),
     }
 }

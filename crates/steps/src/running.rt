@@ -3,6 +3,7 @@ ghost use Rattle.std.specs.Prelude.{cond, ◌||◌, ◌≡◌, eqb};
 ghost use Rattle.rules.specs.Run.{ran, run};
 ghost use Rattle.collector.specs.Answer.{number_of};
 ghost use Rattle.lent.specs.Lent.{box_of, SameReferences};
+ghost use Rattle.steps.specs.Held.{box_held};
 
 use crate::stepping::steps;
 use collector::Answer;
@@ -31,11 +32,12 @@ fn outcome(answer: Answer) -> u32
 
 // A run with a budget of steps. Answers 0 where it stopped at a step that answers 31 or 32, 8 where the held request was dropped, 9
 // where sizes, lengths or phase are wrong, also with budget 0, or before a step that answers 9, else 11. A step that answers 9 is
-// not counted, and leaves everything as found. After 33 the run goes on.
+// not counted, and leaves everything as found. After 33 the run goes on. It changes none of the hold's numbers (`held`).
 #[tactic(auto, using(crate::proofs::Runs::run_starts, crate::proofs::Runs::run_spent, rules::proofs::Runs::run_refused))]
 pub fn run(unit: &mut MemoryUnit<'_>, budget: u32) -> Ran
     ensures same_references { SameReferences unit.old unit.new }
     ensures ran { ran (box_of unit.new) result.answer result.steps ≡ run budget (box_of unit.old) }
+    ensures held { ran (box_held unit.old unit.new) result.answer result.steps ≡ run budget (box_of unit.old) }
 {
     if !unit.is_sound() {
         return Ran {

@@ -5,6 +5,7 @@ ghost use Rattle.rules.specs.Collector.{step};
 ghost use Rattle.rules.specs.Run.{ran};
 ghost use Rattle.collector.specs.Answer.{number_of};
 ghost use Rattle.lent.specs.Lent.{box_of, SameReferences};
+ghost use Rattle.steps.specs.Held.{box_held};
 ghost use Rattle.steps.specs.Stretch.{stretch};
 
 use collector::Answer;
@@ -69,11 +70,10 @@ fn any_step(unit: &mut MemoryUnit<'_>) -> Answer
     steps(unit, 1).answer
 }
 
-// One step of the collector, by the rule of its phase. Answers 30 going; 31 ended with nothing held, 32 ended and granted, 33 ended
-// and still held; 8 the held request is dropped; 9 refused, and then everything is as found.
+// The step itself, of any box; `step` says of the hold too what follows from this.
 #[inline(always)]
 #[tactic(auto, using(crate::proofs::Ruling::step_refused, lent::proofs::Columns::sound_words, phases::proofs::WordSteps::word_done))]
-pub fn step(unit: &mut MemoryUnit<'_>) -> u32
+fn one_step(unit: &mut MemoryUnit<'_>) -> u32
     ensures same_references { SameReferences unit.old unit.new }
     ensures answered { reply (box_of unit.new) result ≡ step (box_of unit.old) }
 {
@@ -102,4 +102,15 @@ pub fn step(unit: &mut MemoryUnit<'_>) -> u32
             any_step(&mut again).number()
         }
     }
+}
+
+// One step of the collector, by the rule of its phase. Answers 30 going; 31 ended with nothing held, 32 ended and granted, 33 ended
+// and still held; 8 the held request is dropped; 9 refused, and then everything is as found. It changes none of the hold's numbers (`held`).
+#[inline(always)]
+pub fn step(unit: &mut MemoryUnit<'_>) -> u32
+    ensures same_references { SameReferences unit.old unit.new }
+    ensures answered { reply (box_of unit.new) result ≡ step (box_of unit.old) }
+    ensures held { reply (box_held unit.old unit.new) result ≡ step (box_of unit.old) }
+{
+    one_step(unit)
 }

@@ -11,7 +11,7 @@ pub returns-in-Err : goal.returns-in-Err
 returns-in-Err c = head_refused c.args.bytes.now c.args.numbers.now c.if-numbers-bytes.false _ c.head_of.ensures _ c.in-Err.is _ c.number.ensures
 
 pub put-requires : goal.put-requires
-put-requires c = omega (arith, head_fits (head_stands c.args.bytes.now _ c.head_of.ensures c.in-Ok.e c.in-Ok.is))
+put-requires c = (omega (arith, head_fits (head_stands c.args.bytes.now _ c.head_of.ensures c.in-Ok.e c.in-Ok.is)), omega arith, omega arith)
 
 pub loop-further-init : goal.loop-further-init
 loop-further-init c =

@@ -1,9 +1,7 @@
 -- `read_one` meets its contract: a refused record, the end and a record are the three kinds of turn, and each leaves what the call comes
 -- to as it was. A record's numbers have places, since each took a byte. Assumes nothing.
-use mathlib.Core.List.{[], ◌∷◌}
-use mathlib.Core.Path.{◌∙◌, ap, sym}
+use mathlib.Core.Path.{◌∙◌, ap}
 use native.Mathlib.Omega.{arith}
-use lib.Seq.{length-take-le}
 use Rattle.record.specs.Turns.{last}
 use Rattle.record.proofs.Readings.{record_stands, turn_refused, turn_end, size_fits, turn_item}
 use Rattle.record.proofs.reading.read_one.Goals as goal
@@ -17,22 +15,11 @@ returns-then-e-eq0 c =
     ap (last a.numbers.now a.place.n) c.ending.ensures
     ∙ turn_end (record_stands a.bytes.now a.place.at _ c.record_at.ensures c.in-Ok.e c.in-Ok.is) a.numbers.now a.place.n a.place.count c.if-e-eq0.true
 
-pub slice_bounds-put-end : goal.slice_bounds-put-end
-slice_bounds-put-end c =
-    let s = record_stands c.args.bytes.now c.args.place.at _ c.record_at.ensures c.in-Ok.e c.in-Ok.is in
-    (size_fits s c.size_of-size.ensures).1
-
-pub slice_bounds-put-end-2 : goal.slice_bounds-put-end-2
-slice_bounds-put-end-2 c =
-    let s = record_stands c.args.bytes.now c.args.place.at _ c.record_at.ensures c.in-Ok.e c.in-Ok.is in
-    sym (length-take-le c.size_of-size.result (c.in-Ok.e.kind ∷ c.in-Ok.e.a ∷ c.in-Ok.e.b ∷ c.in-Ok.e.c ∷ []) (size_fits s c.size_of-size.ensures).1)
-
 pub put-requires : goal.put-requires
 put-requires c =
     let s = record_stands c.args.bytes.now c.args.place.at _ c.record_at.ensures c.in-Ok.e c.in-Ok.is in
     let f = size_fits s c.size_of-size.ensures in
-    let l = length-take-le c.size_of-size.result (c.in-Ok.e.kind ∷ c.in-Ok.e.a ∷ c.in-Ok.e.b ∷ c.in-Ok.e.c ∷ []) f.1 in
-    omega (arith, l)
+    (omega (arith, f, c.requires.room, c.requires.few, c.requires.inside), f.0, f.1)
 
 pub overflow_add-result : goal.overflow_add-result
 overflow_add-result c =
